@@ -1,0 +1,42 @@
+-- Marked cases M1 to M4 of document 01, and what the writer does with them. Assumes nothing.
+use mathlib.Core.Path.{_≡_, refl}
+use mathlib.Core.List.{List, [], _∷_}
+use lib.IntN.{pos, negsuc}
+use Rattle.digits.specs.Digits.{digitsOf}
+use Rattle.text.specs.Text.{fixed, widthTo, widthOf, decimal}
+use Rattle.price.specs.Price.{fractionOf, amountOf, priceOf}
+use Rattle.price.specs.PriceText.{decimals, fractionText, amountText, priceText}
+use Rattle.price.specs.declared.Priced.{Priced}
+
+-- M1: 24.01 is 240100000
+pub m1 : priceOf (50 ∷ 52 ∷ 46 ∷ 48 ∷ 49 ∷ []) ≡ Priced.Is (pos 240100000)
+unfolding priceOf amountOf fractionOf digitsOf
+m1 = refl
+
+-- M2: -0.5 is -5000000
+pub m2 : priceOf (45 ∷ 48 ∷ 46 ∷ 53 ∷ []) ≡ Priced.Is (negsuc 4999999)
+unfolding priceOf amountOf fractionOf digitsOf
+m2 = refl
+
+-- M3: -0 is 0
+pub m3 : priceOf (45 ∷ 48 ∷ []) ≡ Priced.Is (pos 0)
+unfolding priceOf amountOf fractionOf digitsOf
+m3 = refl
+
+-- M4: `1.` and 8 decimals are refused
+pub m4-point : priceOf (49 ∷ 46 ∷ []) ≡ Priced.No
+unfolding priceOf amountOf fractionOf digitsOf
+m4-point = refl
+
+pub m4-eight : priceOf (49 ∷ 46 ∷ 49 ∷ 50 ∷ 51 ∷ 52 ∷ 53 ∷ 54 ∷ 55 ∷ 56 ∷ []) ≡ Priced.No
+unfolding priceOf amountOf fractionOf digitsOf
+m4-eight = refl
+
+-- 0 is written as 0, and -0.5 as -0.5
+pub writes-zero : priceText (pos 0) ≡ 48 ∷ []
+unfolding priceText amountText fractionText decimal widthOf widthTo fixed
+writes-zero = refl
+
+pub writes-half : priceText (negsuc 4999999) ≡ 45 ∷ 48 ∷ 46 ∷ 53 ∷ []
+unfolding priceText amountText fractionText decimals decimal widthOf widthTo fixed
+writes-half = refl

@@ -1,0 +1,56 @@
+-- Tag 270 (document 01, "Fields"): an optional minus, 1 to 9 digits (leading zeros allowed), then nothing or a point and
+-- 1 to 7 digits; held as a signed whole number of ten-millionths. Assumes nothing.
+use Prim.Native.Nat.{ℕ, _+_, _-_, _*_, _^_}
+use mathlib.Core.List.{List, [], _∷_}
+use mathlib.Core.Bool.{Bool, true, false, cond}
+use lib.ListN.{length, take, drop}
+use lib.IntN.{pos, negℤ}
+use lib.Dec.{eqb}
+use Rattle.digits.specs.Digits.{digitsOf}
+use Rattle.digits.specs.declared.Number.{Number}
+use Rattle.digits.specs.declared.Number.the-variants.{Is, No}
+use Rattle.price.specs.declared.Priced.{Priced}
+
+-- a price of 1, in ten-millionths
+abbrev pub unit : ℕ
+unit = 10000000
+
+-- no price is as far from 0
+abbrev pub top : ℕ
+top = 10000000000000000
+
+-- an optional minus, then an amount
+abbrev pub minus : Number → Priced
+minus (Is n) = Priced.Is (negℤ (pos n))
+minus No = Priced.No
+
+abbrev pub plus : Number → Priced
+plus (Is n) = Priced.Is (pos n)
+plus No = Priced.No
+
+-- how many bytes stand before the first x
+abbrev pub ahead : ℕ → List ℕ → ℕ
+ahead x [] = 0
+ahead x (b ∷ bs) = cond (eqb b x) 0 (ahead x bs + 1)
+
+-- nothing, or a point and 1 to 7 digits, in ten-millionths
+abbrev pub scaled : ℕ → Number → Number
+scaled n (Is b) = Is (b * 10 ^ n)
+scaled n No = No
+
+unfoldable pub fractionOf : List ℕ → Number
+fractionOf [] = Is 0
+fractionOf (point ∷ bs) = scaled (7 - length bs) (digitsOf 7 bs)
+
+abbrev pub joined : Number → Number → Number
+joined (Is a) (Is b) = Is (a * unit + b)
+joined (Is a) No = No
+joined No b = No
+
+-- 1 to 9 digits up to the point, and what follows
+unfoldable pub amountOf : List ℕ → Number
+amountOf bs = joined (digitsOf 9 (take (ahead 46 bs) bs)) (fractionOf (drop (ahead 46 bs) bs))
+
+unfoldable pub priceOf : List ℕ → Priced
+priceOf [] = Priced.No
+priceOf (b ∷ bs) = cond (eqb b 45) (minus (amountOf bs)) (plus (amountOf (b ∷ bs)))

@@ -1,0 +1,175 @@
+// Prices: tag 270 read to a signed whole number of ten-millionths and written again without a needless zero, point or
+// minus; and the one number that holds a price in the store (document 01, "Fields" 270 and "Quote and writing").
+use digits::Number;
+ghost use mathlib.Core.Path.{_≡_};
+ghost use Prim.Native.Nat.{_+_, _-_, _*_, _^_, _≤_, _<_};
+ghost use lib.ListN.{length};
+ghost use lib.IntN.{pos, negsuc, negℤ, natAbs};
+ghost use Rattle.text.specs.Text.{Wrote};
+ghost use Rattle.price.specs.Price.{unit, top, ahead, amountOf, priceOf};
+ghost use Rattle.price.specs.PriceText.{decimals, amountText, priceText};
+ghost use Rattle.price.specs.Held.{heldOf, ofHeld};
+
+// A price that was read, or none.
+pub enum Priced {
+    Is(i64),
+    No,
+}
+
+// A price of 1, in ten-millionths.
+const UNIT: u64 = 10000000;
+
+// How many bytes stand before the first x.
+fn find(text: &[u8], x: u8) -> usize
+    ensures { λ r. ⌜ (r ≡ ahead x (now (text .entry))) × (r ≤ length (now (text .entry))) ⌝ }
+{
+    let n = text.len();
+    let mut i: usize = 0;
+    while i < n {
+        if text[i] == x {
+            return i;
+        }
+        i += 1;
+    }
+    n
+}
+
+// Ten to the number of decimals that are missing of seven.
+fn scale(n: usize) -> u64
+    requires { ⌜ n ≤ 7 ⌝ }
+    ensures { λ r. ⌜ r ≡ 10 ^ (7 - n) ⌝ }
+{
+    match n {
+        0 => 10000000,
+        1 => 1000000,
+        2 => 100000,
+        3 => 10000,
+        4 => 1000,
+        5 => 100,
+        6 => 10,
+        _ => 1,
+    }
+}
+
+// Without its sign: 1 to 9 digits, then nothing or a point and 1 to 7 digits.
+fn amount(text: &[u8]) -> Number
+    ensures { λ r. ⌜ r ≡ amountOf (now (text .entry)) ⌝ }
+{
+    let n = text.len();
+    let p = find(text, 46);
+    let Number::Is(w) = digits::digits(&text[..p], 9) else {
+        return Number::No;
+    };
+    if p == n {
+        return Number::Is(w * UNIT);
+    }
+    let q = p + 1;
+    let Number::Is(f) = digits::digits(&text[q..], 7) else {
+        return Number::No;
+    };
+    Number::Is(w * UNIT + f * scale(n - q))
+}
+
+fn above(m: u64) -> i64
+    requires { ⌜ m < 2 ^ 63 ⌝ }
+    ensures { λ r. ⌜ r ≡ pos m ⌝ }
+{
+    m as i64
+}
+
+fn below(m: u64) -> i64
+    requires { ⌜ m < 2 ^ 63 ⌝ }
+    ensures { λ r. ⌜ r ≡ negℤ (pos m) ⌝ }
+{
+    0 - (m as i64)
+}
+
+// Tag 270: an optional minus, then an amount.
+pub fn read(text: &[u8]) -> Priced
+    ensures { λ r. ⌜ r ≡ priceOf (now (text .entry)) ⌝ }
+{
+    if text.len() == 0 {
+        return Priced::No;
+    }
+    if text[0] == 45 {
+        let Number::Is(m) = amount(&text[1..]) else {
+            return Priced::No;
+        };
+        return Priced::Is(below(m));
+    }
+    let Number::Is(n) = amount(text) else {
+        return Priced::No;
+    };
+    Priced::Is(above(n))
+}
+
+// Seven decimals without the zeros at the end.
+fn put_decimals(out: &mut [u8], at: usize, f: u64) -> usize
+    requires { ⌜ (at < 2 ^ 31) × (0 < f) × (f < unit) ⌝ }
+    ensures { λ r. ⌜ Wrote (now (out .entry)) at (decimals 7 f) (now (out .exit)) r × (r ≤ at + 7) ⌝ }
+{
+    let mut k: usize = 7;
+    let mut m = f;
+    while m % 10 == 0 {
+        m /= 10;
+        k -= 1;
+    }
+    text::put_fixed(out, at, k, m)
+}
+
+fn put_amount(out: &mut [u8], at: usize, m: u64) -> usize
+    requires { ⌜ (at < 2 ^ 30) × (m < top) ⌝ }
+    ensures { λ r. ⌜ Wrote (now (out .entry)) at (amountText m) (now (out .exit)) r × (r ≤ at + 26) ⌝ }
+{
+    let b = text::put_decimal(out, at, m / UNIT);
+    let f = m % UNIT;
+    if f == 0 {
+        return b;
+    }
+    let d = text::put(out, b, 46);
+    put_decimals(out, d, f)
+}
+
+fn magnitude(p: i64) -> u64
+    requires { ⌜ natAbs p < top ⌝ }
+    ensures { λ r. ⌜ r ≡ natAbs p ⌝ }
+{
+    if p < 0 {
+        return (0 - p) as u64;
+    }
+    p as u64
+}
+
+// A price, shortest form.
+pub fn put(out: &mut [u8], at: usize, p: i64) -> usize
+    requires { ⌜ (at < 2 ^ 29) × (natAbs p < top) ⌝ }
+    ensures { λ r. ⌜ Wrote (now (out .entry)) at (priceText p) (now (out .exit)) r × (r ≤ at + 27) ⌝ }
+{
+    let m = magnitude(p);
+    if p < 0 {
+        let b = text::put(out, at, 45);
+        return put_amount(out, b, m);
+    }
+    put_amount(out, at, m)
+}
+
+// The number that holds a price: 0 for 0, then 1 for the first below, 2 for the first above, and so on. Every number of
+// 64 bits holds one price, and the prices of tag 270 fill one range from 0.
+pub fn held(p: i64) -> u64
+    ensures { λ r. ⌜ r ≡ heldOf p ⌝ }
+{
+    if p < 0 {
+        return ((-1 - p) as u64) * 2 + 1;
+    }
+    (p as u64) * 2
+}
+
+pub fn of_held(w: u64) -> i64
+    ensures { λ r. ⌜ r ≡ ofHeld w ⌝ }
+{
+    let m = (w / 2) as i64;
+    if w % 2 == 0 {
+        return m;
+    }
+    -1 - m
+}
