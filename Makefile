@@ -1,0 +1,4 @@
+# Two commands: `make run` (when there is something to run) and `make test`.
+.PHONY: test
+test:
+	@./scripts/test

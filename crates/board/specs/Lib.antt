@@ -1,0 +1,10 @@
+pub mod Board
+pub mod Count
+pub mod Snapshot
+pub mod Feed
+pub mod Calls
+pub mod Demand
+pub mod Ranges
+pub mod Sound
+pub mod Laws
+pub mod Loss

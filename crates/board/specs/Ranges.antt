@@ -1,0 +1,75 @@
+-- The ranges of document 01, "Fields": when an entry, a queued entry and a message lie in them.
+use mathlib.Core.Bool.{Bool, true, cond, _&&_, _||_}
+use mathlib.Core.List.{List, [], _∷_}
+use Prim.Native.Nat.{ℕ}
+use lib.Dec.{ltb, leb, eqb}
+use lib.IntN.{natAbs}
+use lib.ListN.{length}
+use Rattle.book.specs.declared.Entry.{Entry}
+use Rattle.book.specs.declared.Update.{Update}
+use Rattle.message.specs.Message.{Message, Head, numbered, snapshot, refused, answerOf}
+
+-- f of each of a list.
+abbrev pub all : {A : Type 0} → (A → Bool) → List A → Bool
+all f [] = true
+all f (x ∷ xs) = f x && all f xs
+
+-- n from lo to hi.
+abbrev pub within : ℕ → ℕ → ℕ → Bool
+within lo hi n = leb lo n && leb n hi
+
+-- 34, 369 and 911 end here.
+abbrev pub mostNumber : ℕ
+mostNumber = 4294967295
+
+-- 48: 1 to 18 digits, at least 1.
+abbrev pub idFine : ℕ → Bool
+idFine d = within 1 999999999999999999 d
+
+-- 52, and 272 with 273: 3,652,425 days of the years 0000 to 9999, each of 24 * 60 * 61 seconds in milliseconds.
+abbrev pub momentFine : ℕ → Bool
+momentFine m = ltb m 320829012000000
+
+-- 37: the words of at most 8 bytes are the numbers 1 to 6,161,234,432,565,770, those of exactly 8 start at 65,545,047,154,955;
+-- a second word stands only after a first of 8 bytes.
+abbrev pub orderFine : ℕ → ℕ → Bool
+orderFine by more = within 1 6161234432565770 by && (eqb more 0 || (leb 65545047154955 by && leb more 6161234432565770))
+
+-- 346: 1 to 65,535.
+abbrev pub ordersFine : ℕ → ℕ → Bool
+ordersFine by more = within 1 65535 by && eqb more 0
+
+-- A place's entry: 270 with 9 digits and 7 decimals, 271, its moment, and 37 on an order-depth channel or 346 on a price-depth one.
+unfoldable pub entryFine : ℕ → Entry → Bool
+entryFine depth e =
+    ltb (natAbs (e .price)) 10000000000000000
+    && (within 1 999999999999 (e .size)
+    && (momentFine (e .moment) && cond (eqb depth 0) (orderFine (e .by) (e .more)) (ordersFine (e .by) (e .more))))
+
+-- Values that an entry doesn't need are zero.
+unfoldable pub noneFine : Entry → Bool
+noneFine e = eqb (natAbs (e .price)) 0 && (eqb (e .size) 0 && (eqb (e .by) 0 && (eqb (e .more) 0 && eqb (e .moment) 0)))
+
+-- What an entry of an X says: a bid (0) or an offer (1) with its action and 290, where new and change need their values; or J (2).
+unfoldable pub updateFine : ℕ → Update → Bool
+updateFine depth u =
+    cond (leb (u .what) 1)
+    (leb (u .action) 4 && (within 1 65535 (u .place) && cond (leb (u .action) 1) (entryFine depth (u .entry)) (noneFine (u .entry))))
+    (eqb (u .what) 2 && (eqb (u .action) 0 && (eqb (u .place) 0 && noneFine (u .entry))))
+
+-- An entry of a W: a bid or an offer, all new.
+unfoldable pub shownFine : ℕ → Update → Bool
+shownFine depth u = leb (u .what) 1 && (eqb (u .action) 0 && entryFine depth (u .entry))
+
+-- What stands before a W's entries.
+unfoldable pub headFine : Head → Bool
+headFine h =
+    within 1 mostNumber (h .number)
+    && (momentFine (h .heard) && (idFine (h .id) && (leb (h .last) mostNumber && within 1 mostNumber (h .loops))))
+
+-- A message in range on a channel of this depth kind; 268 is at most 64.
+unfoldable pub messageFine : ℕ → Message → Bool
+messageFine depth (numbered n heard us) =
+    within 1 mostNumber n && (momentFine heard && (leb (length us) 64 && all (λ u. idFine (u .who) && updateFine depth u) us))
+messageFine depth (snapshot h us) = headFine h && (leb (length us) 64 && all (shownFine depth) us)
+messageFine depth (refused v) = within 11 14 (answerOf v)

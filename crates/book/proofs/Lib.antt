@@ -1,0 +1,10 @@
+pub mod Padding
+pub mod Turns
+pub mod Tests
+pub mod Canon
+pub mod Listed
+pub mod Every
+pub mod Actions
+pub mod Keeping
+pub mod Untouched
+pub mod Marked

@@ -1,0 +1,32 @@
+// What a message says once it is read: its type's part, its numbers and its entries, by value (document 01, "Frame" and
+// "Fields"). The reader answers one of these; a board takes it.
+use book::Update;
+
+// How the reading ended.
+pub enum Verdict {
+    // X, 0, f, y, B: it carries a number and a time, an X entries too
+    Numbered,
+    // W
+    Snapshot,
+    // 11
+    BadFrame,
+    // 12
+    BadSum,
+    // 13
+    BadType,
+    // 14
+    BadFields,
+}
+
+// A message that was read. number is 34 and heard the moment of 52; id, last and loops are 48, 369 and 911 of a W, else 0.
+// The first count of the updates are its bid, offer and J entries in order; the others are zero.
+pub struct Reading {
+    pub verdict: Verdict,
+    pub number: u64,
+    pub heard: u64,
+    pub id: u64,
+    pub last: u64,
+    pub loops: u64,
+    pub count: usize,
+    pub updates: [Update; 64],
+}

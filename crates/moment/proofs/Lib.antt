@@ -1,0 +1,6 @@
+pub mod Bounds
+pub mod Steps
+pub mod Texts
+pub mod Back
+pub mod Aged
+pub mod Cases

@@ -1,0 +1,2 @@
+pub mod OrderIds
+pub mod Words
