@@ -1,0 +1,4 @@
+pub mod Outcomes
+pub mod Applying
+pub mod Breaking
+pub mod Giving

@@ -1,0 +1,91 @@
+// Live instruments get their entries, in place in the store (document 01, "A side of a book" and "Numbers, queue and
+// marks"). A breach breaks the instrument: both sides emptied, mark Waiting, the reason.
+use book::Update;
+use heading::Heading;
+ghost use mathlib.Core.Path.{_≡_};
+ghost use Prim.Native.Nat.{_+_, _*_, _≤_, _<_};
+ghost use lib.ListN.{length};
+ghost use Rattle.cells.specs.Runs.{updateSize, updatesIn};
+ghost use Rattle.store.specs.Layout.{storeSize};
+ghost use Rattle.store.specs.Meaning.{st};
+ghost use Rattle.store.specs.Canon.{Formed};
+ghost use Rattle.deliver.specs.Gives.{taken, changeS, applyS, breakS, giveS, giveAllS};
+
+// What an entry is of; any other number is J.
+const BID: u64 = 0;
+
+const OFFER: u64 = 1;
+
+// The side at `at` takes an entry: 0, or the reason of the breach.
+fn change(store: &mut [u64], at: usize, u: Update) -> u64
+    requires { ⌜ at + 101 ≤ length (now store) ⌝ }
+    ensures { λ r. ⌜ taken r (now (store .exit)) ≡ changeS at u (now (store .entry)) ⌝ }
+{
+    let s = cells::load_side(store, at);
+    let e = u.entry;
+    let d = book::on_side(s, u.action, u.place, e);
+    let t = d.side;
+    cells::save_side(store, at, t);
+    d.reason
+}
+
+// The book of instrument i takes an entry: 0, or the reason of the breach.
+fn apply(store: &mut [u64], i: usize, u: Update) -> u64
+    requires { ⌜ (storeSize ≤ length (now store)) × (i < 16) ⌝ }
+    ensures { λ r. ⌜ taken r (now (store .exit)) ≡ applyS i u (now (store .entry)) ⌝ }
+{
+    let at = i * store::BOOK;
+    if u.what == BID {
+        return change(store, store::BIDS + at, u);
+    }
+    if u.what == OFFER {
+        return change(store, store::OFFERS + at, u);
+    }
+    cells::zero_run(store, store::BIDS + at, store::BOOK);
+    0
+}
+
+// Instrument i breaks for a reason.
+pub fn break_off(store: &mut [u64], h: Heading, i: usize, reason: u64) -> Heading
+    requires { ⌜ (storeSize ≤ length (now store)) × (i < 16) ⌝ }
+    ensures { λ r. ⌜ st r (now (store .exit)) ≡ breakS i reason (st h (now (store .entry))) ⌝ }
+{
+    cells::zero_run(store, store::BIDS + i * store::BOOK, store::BOOK);
+    store[store::REASONS + i * store::RECORD] = reason;
+    h.wait(i)
+}
+
+// An entry, to its instrument if that is followed and Live.
+fn give(store: &mut [u64], h: Heading, u: Update) -> Heading
+    requires { ⌜ (storeSize ≤ length (now store)) × (h .followed ≤ 16) ⌝ }
+    ensures { λ r. ⌜ st r (now (store .exit)) ≡ giveS u (st h (now (store .entry))) ⌝ }
+{
+    let followed = h.followed as u64;
+    if followed <= u.who {
+        return h;
+    }
+    let i = u.who as usize;
+    if h.waits(i) {
+        return h;
+    }
+    let reason = apply(store, i, u);
+    if reason == 0 {
+        return h;
+    }
+    break_off(store, h, i, reason)
+}
+
+// The entries of a message, in order.
+pub fn give_all(store: &mut [u64], h: Heading, run: &[u64], count: usize) -> Heading
+    requires { ⌜ Formed (st h (now store)) × (count * updateSize ≤ length (now run)) ⌝ }
+    ensures { λ r. ⌜ st r (now (store .exit)) ≡ giveAllS (updatesIn (now (run .entry)) count) (st h (now (store .entry))) ⌝ }
+{
+    let mut g = h;
+    let mut i = 0usize;
+    while i < count {
+        let u = cells::load_update(run, i * cells::UPDATE);
+        g = give(store, g, u);
+        i += 1;
+    }
+    g
+}

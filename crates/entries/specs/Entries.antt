@@ -1,0 +1,67 @@
+-- What an entry says (document 01, "Fields", third paragraph). Values that an entry doesn't need are not read.
+use Prim.Native.Nat.{ℕ}
+use mathlib.Core.List.{List, []}
+use mathlib.Core.Bool.{cond}
+use mathlib.Core.Option.{Option, none, some}
+use lib.Dec.{leb, eqb}
+use Rattle.book.specs.declared.Entry.{Entry}
+use Rattle.book.specs.declared.Update.{Update}
+use Rattle.book.specs.Sides.{noEntry}
+use Rattle.entries.specs.Values.{_>>=_, Values, instrumentAt, actionAt, sortAt, placeAt, priceAt, sizeAt, byAt, momentAt}
+use Rattle.entries.specs.declared.Said.{Said}
+use Rattle.entries.specs.declared.Valued.{Valued}
+
+-- The values of a place: 270, 271, 37 or 346, 272, 273.
+unfoldable pub valuesOf : ℕ → Values → Option Entry
+valuesOf depth v =
+    priceAt v >>= λ price.
+    sizeAt v >>= λ size.
+    byAt depth v >>= λ by.
+    momentAt v >>= λ moment.
+    some (record { price = price; size = size; by = by .by; more = by .more; moment = moment })
+
+-- An entry says one update, or it is passed over.
+abbrev pub says : Update → Option (Option Update)
+says u = some (some u)
+
+abbrev pub passedOver : Option (Option Update)
+passedOver = some none
+
+-- Bids and offers in X need 290, 48 and 22; new and change also the values of a place.
+unfoldable pub bookEntry : ℕ → ℕ → ℕ → Values → Option (Option Update)
+bookEntry depth side action v =
+    placeAt v >>= λ place.
+    instrumentAt v >>= λ id.
+    cond (leb action 1) (valuesOf depth v) (some noEntry) >>= λ entry.
+    says (record { who = id; what = side; action = action; place = place; entry = entry })
+
+-- J needs 48 and 22.
+unfoldable pub emptyBook : Values → Option (Option Update)
+emptyBook v = instrumentAt v >>= λ id. says (record { who = id; what = 2; action = 0; place = 0; entry = noEntry })
+
+-- An entry of an X: its 279 is checked whatever its 269.
+unfoldable pub entryInX : ℕ → Values → Option (Option Update)
+entryInX depth v =
+    actionAt v >>= λ action.
+    sortAt v >>= λ sort.
+    cond (leb sort 1) (bookEntry depth sort action v) (cond (eqb sort 2) (emptyBook v) passedOver)
+
+-- An entry of a W for the instrument id: bids and offers need 290 and the values of a place; J is passed over too.
+unfoldable pub shownEntry : ℕ → ℕ → ℕ → Values → Option (Option Update)
+shownEntry depth id side v =
+    placeAt v >>= λ place.
+    valuesOf depth v >>= λ entry.
+    says (record { who = id; what = side; action = 0; place = place; entry = entry })
+
+unfoldable pub entryInW : ℕ → ℕ → Values → Option (Option Update)
+entryInW depth id v = sortAt v >>= λ sort. cond (leb sort 1) (shownEntry depth id sort v) passedOver
+
+-- The code's answers.
+unfoldable pub valued : Option Entry → Valued
+valued none = Valued.No
+valued (some e) = Valued.Is e
+
+unfoldable pub said : Option (Option Update) → Said
+said none = Said.Bad
+said (some none) = Said.Passed
+said (some (some u)) = Said.Is u

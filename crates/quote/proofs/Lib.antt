@@ -1,0 +1,3 @@
+pub mod Tops
+pub mod Asked
+pub mod Cases

@@ -1,0 +1,3 @@
+pub mod Headings
+pub mod Each
+pub mod Tests

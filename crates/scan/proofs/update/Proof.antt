@@ -1,0 +1,106 @@
+-- `update` meets its contract: each test that leaves is one of the definition's.
+use mathlib.Core.Path.{_∙_}
+use Prim.Native.Nat.{_+_}
+use borrow.Author.Tests.{lt-leb, le-leb}
+use lib.ListN.{getD}
+use Rattle.scan.specs.Scan.{updateScan}
+use Rattle.scan.proofs.Tests.{out-of, inside}
+use borrow.Author.Needs.{needs}
+use Rattle.scan.proofs.update.Statement.{statement}
+use Rattle.scan.proofs.update.Tie as tie
+
+mul-what : tie.Need-mul-what
+mul-what c = search needs
+
+shared-slice-read-what : tie.Need-shared-slice-read-what
+shared-slice-read-what c = search needs
+
+add-action : tie.Need-add-action
+add-action c = search needs
+
+mul-action : tie.Need-mul-action
+mul-action c = search needs
+
+shared-slice-read-action : tie.Need-shared-slice-read-action
+shared-slice-read-action c = search needs
+
+add-place : tie.Need-add-place
+add-place c = search needs
+
+mul-place : tie.Need-mul-place
+mul-place c = search needs
+
+shared-slice-read-place : tie.Need-shared-slice-read-place
+shared-slice-read-place c = search needs
+
+add-zero : tie.Need-add-zero
+add-zero c = search needs
+
+zero-requires : tie.Need-zero-requires
+zero-requires c κs = search needs
+
+returns : tie.Need-returns
+unfolding updateScan
+returns c = rw (c .zero .ensures, lt-leb _ _ (c .before .if1 .taken))
+
+returns-2 : tie.Need-returns-2
+unfolding updateScan
+returns-2 c = simp (le-leb _ _ (c .before .if1 .left), lt-leb _ _ (c .if2 .taken))
+
+returns-3 : tie.Need-returns-3
+unfolding updateScan
+returns-3 c =
+    let a = c .before .before .before .before .before .before .before .args in
+    simp (le-leb _ _ (c .before .before .if1 .left), le-leb _ _ (c .before .if2 .left), out-of 1 65535 (getD (a .store .now) (a .at + 2) 0) (c .if3 .taken))
+
+add-entry : tie.Need-add-entry
+add-entry c = search needs
+
+entry-requires : tie.Need-entry-requires
+entry-requires c κs = search needs
+
+returns-4 : tie.Need-returns-4
+unfolding updateScan
+returns-4 c =
+    let a = c .before .before .before .before .before .before .before .before .before .args in
+    c .entry .ensures
+    ∙ simp
+    (le-leb _ _ (c .before .before .before .before .if1 .left), le-leb _ _ (c .before .before .before .if2 .left), inside 1 65535 (getD (a .store .now) (a .at + 2) 0) (c .before .before .if3 .left), le-leb _ _ (c .before .if4 .taken))
+
+add-zero-2 : tie.Need-add-zero-2
+add-zero-2 c = search needs
+
+zero-requires-2 : tie.Need-zero-requires-2
+zero-requires-2 c κs = search needs
+
+returns-5 : tie.Need-returns-5
+unfolding updateScan
+returns-5 c =
+    let a = c .before .before .before .before .before .before .before .before .before .args in
+    c .zero2 .ensures
+    ∙ simp
+    (le-leb _ _ (c .before .before .before .before .if1 .left), le-leb _ _ (c .before .before .before .if2 .left), inside 1 65535 (getD (a .store .now) (a .at + 2) 0) (c .before .before .if3 .left), lt-leb _ _ (c .before .if4 .left))
+
+pub update-spec : {M : Type 1} → statement M
+update-spec =
+    tie.close
+    (tie.spec
+    mul-what
+    shared-slice-read-what
+    add-action
+    mul-action
+    shared-slice-read-action
+    add-place
+    mul-place
+    shared-slice-read-place
+    add-zero
+    zero-requires
+    returns
+    returns-2
+    returns-3
+    add-entry
+    entry-requires
+    returns-4
+    add-zero-2
+    zero-requires-2
+    returns-5)

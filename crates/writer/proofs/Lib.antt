@@ -1,0 +1,4 @@
+pub mod Names
+pub mod Sides
+pub mod Pages
+pub mod Promise
