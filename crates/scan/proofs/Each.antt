@@ -4,7 +4,7 @@ use mathlib.Core.Bool.{Bool, true, false, _&&_, false≢true}
 use mathlib.Core.List.{List}
 use mathlib.Core.Logic.{⊎-elim}
 use Prim.Native.Nat.{ℕ, zero, suc, _+_, _<_}
-use native.Mathlib.Nat.{add-zero, add-suc, add-assoc, eq-or-lt-of-le, le-of-suc-le-suc}
+use native.Mathlib.Nat.{eq-or-lt-of-le, le-of-suc-le-suc}
 use native.Mathlib.Numerals.{add-one}
 use native.Mathlib.Omega.{arith}
 use lib.Dec.{eqb}
@@ -27,14 +27,6 @@ each-more f i = rw add-one
 and-false : (b : Bool) → b && false ≡ false
 and-false true = refl
 and-false false = refl
-
-and-true : (b : Bool) → b && true ≡ b
-and-true true = refl
-and-true false = refl
-
-and-assoc : (a b c : Bool) → a && b && c ≡ a && (b && c)
-and-assoc true b c = refl
-and-assoc false b c = refl
 
 -- one that fails, for a loop that leaves at it
 pub each-false : (f : ℕ → Bool) (n k : ℕ) → k < n → f k ≡ false → each f n ≡ false
@@ -73,13 +65,6 @@ zero-none xs at = refl
 pub zero-more : (xs : List ℕ) (at n : ℕ) → allZero xs at (n + 1) ≡ allZero xs at n && eqb (getD xs (at + n) 0) 0
 unfolding each allZero
 zero-more xs at n = rw add-one
-
--- one run behind another
-pub zero-both : (xs : List ℕ) (at n m : ℕ) → allZero xs at (n + m) ≡ allZero xs at n && allZero xs (at + n) m
-unfolding each allZero
-zero-both xs at n zero = rw add-zero (sym (and-true (allZero xs at n)))
-zero-both xs at n (suc m) =
-    rw (add-suc, zero-both xs at n m, ← add-assoc at n m) (and-assoc (allZero xs at n) (allZero xs (at + n) m) (eqb (getD xs (at + n + m) 0) 0))
 
 -- numbers joined by `|` are zero where each is
 join-zero : (a b : ℕ) (s t : Bool) → eqb a 0 ≡ s → eqb b 0 ≡ t → eqb (bitOr a b) 0 ≡ s && t

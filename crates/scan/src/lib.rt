@@ -2,7 +2,6 @@
 // once, since every call of the library pays for them. Crate sound shows that it finds exactly the sound stores.
 ghost use mathlib.Core.Path.{_≡_};
 ghost use Prim.Native.Nat.{ℕ, _+_, _*_, _≤_, _<_};
-ghost use lib.Dec.{eqb};
 ghost use lib.ListN.{length, getD, drop};
 ghost use Rattle.board.specs.Sound.{distinct, among};
 ghost use Rattle.store.specs.Layout.{storeSize, atFollowed, atBase, atQueued};
@@ -56,9 +55,6 @@ const SLOT: usize = 11;
 
 const QUEUE_AND_SPARE: usize = 2912;
 
-// So many numbers are tested at a time for zero.
-const RUN: usize = 16;
-
 // An entry's numbers; those of a side's 20 places, and its spare ones.
 const ENTRY: usize = 5;
 
@@ -98,10 +94,10 @@ const MOST_ORDERS: u64 = 65535;
 
 const NO_WORD: u64 = 65536;
 
-// The n numbers from `at` on, joined by `|`.
-fn joined(store: &[u64], at: usize, n: usize) -> u64
+// Whether the n numbers from `at` on are zero, with no way out of the loop: several are taken at a time.
+fn zero(store: &[u64], at: usize, n: usize) -> bool
     requires { ⌜ at + n ≤ length (now store) ⌝ }
-    ensures { λ r. ⌜ eqb r 0 ≡ allZero (now (store .entry)) at n ⌝ }
+    ensures { λ r. ⌜ r ≡ allZero (now (store .entry)) at n ⌝ }
 {
     let mut acc = 0u64;
     let mut i = 0usize;
@@ -109,22 +105,7 @@ fn joined(store: &[u64], at: usize, n: usize) -> u64
         acc = acc | store[at + i];
         i += 1;
     }
-    acc
-}
-
-// Whether the n numbers from `at` on are zero. A run of known length is one straight piece of code.
-fn zero(store: &[u64], at: usize, n: usize) -> bool
-    requires { ⌜ at + n ≤ length (now store) ⌝ }
-    ensures { λ r. ⌜ r ≡ allZero (now (store .entry)) at n ⌝ }
-{
-    let mut acc = 0u64;
-    let mut i = 0usize;
-    while RUN <= n - i {
-        acc = acc | joined(store, at + i, RUN);
-        i += RUN;
-    }
-    let last = joined(store, at + i, n - i);
-    acc | last == 0
+    acc == 0
 }
 
 // The heading.

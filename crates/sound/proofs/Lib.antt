@@ -1,0 +1,12 @@
+pub mod Rows
+pub mod Marks
+pub mod Zeros
+pub mod Numbers
+pub mod Back
+pub mod Whole
+pub mod Ranges
+pub mod Sides
+pub mod Rising
+pub mod Scanned
+pub mod Facts
+pub mod Laws
