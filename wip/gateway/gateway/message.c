@@ -1,0 +1,59 @@
+/* The values of a message that this program shows or remembers. */
+#include "message.h"
+
+#include <string.h>
+
+struct value message_value(const struct piece *message, const char *tag, size_t *from)
+{
+    size_t tag_bytes = strlen(tag);
+    while (*from < message->length) {
+        const uint8_t *field = message->bytes + *from;
+        const uint8_t *end = memchr(field, SOH, (size_t)message->length - *from);
+        size_t width = end ? (size_t)(end - field) : (size_t)message->length - *from;
+        *from += width + 1;
+        if (width > tag_bytes && memcmp(field, tag, tag_bytes) == 0 && field[tag_bytes] == '=')
+            return (struct value){field + tag_bytes + 1, width - tag_bytes - 1};
+    }
+    return (struct value){NULL, 0};
+}
+
+struct value message_first(const struct piece *message, const char *tag)
+{
+    size_t from = 0;
+    return message_value(message, tag, &from);
+}
+
+bool message_has_type(const struct piece *message, char type)
+{
+    struct value value = message_first(message, "35");
+    return value.length == 1 && value.bytes[0] == type;
+}
+
+bool message_names_instruments(const struct piece *message)
+{
+    return message_has_type(message, 'X') || message_has_type(message, 'W');
+}
+
+uint64_t value_number(struct value value)
+{
+    uint64_t number = 0;
+    if (value.length > 18)
+        return 0;
+    for (size_t i = 0; i < value.length; i++) {
+        if (value.bytes[i] < '0' || value.bytes[i] > '9')
+            return 0;
+        number = number * 10 + (uint64_t)(value.bytes[i] - '0');
+    }
+    return number;
+}
+
+const char *value_words(struct value value, char text[VALUE_TEXT])
+{
+    size_t n = value.length < VALUE_TEXT - 1 ? value.length : VALUE_TEXT - 1;
+    if (value.bytes == NULL)
+        return strcpy(text, "-");
+    for (size_t i = 0; i < n; i++)
+        text[i] = (char)(value.bytes[i] > 32 && value.bytes[i] < 127 ? value.bytes[i] : '?');
+    text[n] = '\0';
+    return text;
+}

@@ -1,0 +1,37 @@
+/* The values of a message that this program shows or remembers. What a message means is for the
+ * library to say. */
+#ifndef MESSAGE_H
+#define MESSAGE_H
+
+#include <stdbool.h>
+
+#include "recording.h"
+
+enum { VALUE_TEXT = 24 };
+
+/* A field's value: bytes of the message itself, NULL where the field is missing. */
+struct value {
+    const uint8_t *bytes;
+    size_t length;
+};
+
+/* Gives the value of the first field with this tag from byte `from` on; sets `from` behind it. */
+struct value message_value(const struct piece *message, const char *tag, size_t *from);
+
+/* Gives the value of the first field with this tag. */
+struct value message_first(const struct piece *message, const char *tag);
+
+/* Says whether tag 35 is this letter. */
+bool message_has_type(const struct piece *message, char type);
+
+/* Says whether the message is an X or a W. */
+bool message_names_instruments(const struct piece *message);
+
+/* The number that a value of up to 18 digits writes; 0 for any other value. */
+uint64_t value_number(struct value value);
+
+/* A value as text: what cannot be printed becomes a question mark, a missing value a minus, and
+ * what is too long is cut. */
+const char *value_words(struct value value, char text[VALUE_TEXT]);
+
+#endif

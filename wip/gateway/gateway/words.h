@@ -1,0 +1,32 @@
+/* Answers, prices, moments and ages as a person reads them. */
+#ifndef WORDS_H
+#define WORDS_H
+
+#include <stddef.h>
+#include <stdint.h>
+
+enum {
+    PRICE_TEXT = 24,  /* -999999999.9999999 and its zero byte fit */
+    MOMENT_TEXT = 24, /* YYYYMMDD-HH:MM:SS.sss and its zero byte fit */
+    ORDER_TEXT = 24   /* 16 bytes, or a number of 20 digits, and its zero byte fit */
+};
+
+/* An answer number in words; an unknown one is said to be unknown. */
+const char *answer_words(uint64_t answer);
+
+/* Why an instrument is Waiting, from the reason in its state. */
+const char *waiting_words(uint64_t reason);
+
+/* A price in ten-millionths, as its 64 bits, as a decimal without needless zeros. */
+void price_words(uint64_t price, char text[PRICE_TEXT]);
+
+/* A date YYYYMMDD and a time HHMMSSmmm, shaped as tag 52. */
+void moment_words(uint64_t date, uint64_t time, char text[MOMENT_TEXT]);
+
+/* The bytes of an order id, from the two numbers that a quote gives for it. */
+void order_words(uint64_t by, uint64_t more, char text[ORDER_TEXT]);
+
+/* The milliseconds from a heard date and time to a moment shaped as tag 52. */
+int64_t age_ms(uint64_t heard_date, uint64_t heard_time, const char *now, size_t now_n);
+
+#endif

@@ -1,0 +1,679 @@
+/* Tests of the boundary between C and the library.
+ *
+ * Every answer number is reached. Around every call the lent runs are watched: a refusal must leave
+ * store and output as they were, and nothing may touch the guards around them, what lies beyond a
+ * store's 7,168 numbers, or what lies beyond a quote, a state or a written message. */
+
+#include <inttypes.h>
+#include <stdarg.h>
+#include <stdbool.h>
+#include <stdio.h>
+#include <string.h>
+
+#include "selkavorn.h"
+
+enum {
+    GUARD = 65,         /* odd, so that a store starts at an odd multiple of 8 bytes */
+    STORE_ROOM = 7300,  /* a store larger than it must be */
+    BYTES_ROOM = 4400,  /* more than the longest written message */
+    MESSAGE_ROOM = 9000 /* more than the longest message that is read */
+};
+#define GUARD_NUMBER UINT64_C(0xA5C3A5C3A5C3A5C3)
+#define GUARD_BYTE 0xA5
+
+/* ---- counting ---- */
+
+static unsigned passed, failed;
+static const char *group_name = "";
+static unsigned passed_before, failed_before; /* the group */
+static bool reached[256];                     /* answer numbers */
+
+static void begin(const char *name)
+{
+    group_name = name;
+    passed_before = passed;
+    failed_before = failed;
+}
+
+static void end(void)
+{
+    printf("%s: %u passed, %u failed\n", group_name, passed - passed_before,
+           failed - failed_before);
+}
+
+static void check(bool good, const char *what)
+{
+    if (good) {
+        passed++;
+    } else {
+        failed++;
+        printf("FAILED %s: %s\n", group_name, what);
+    }
+}
+
+static void check_equal(uint64_t got, uint64_t wanted, const char *what)
+{
+    if (got != wanted)
+        printf("got %" PRIu64 ", wanted %" PRIu64 ": ", got, wanted);
+    check(got == wanted, what);
+}
+
+/* ---- lent runs ---- */
+
+/* A store between guards, and a copy of it all from before the last call. */
+struct board {
+    _Alignas(16) uint64_t area[GUARD + STORE_ROOM + GUARD];
+    uint64_t before[GUARD + STORE_ROOM + GUARD];
+    size_t n; /* numbers that calls are told of */
+};
+
+static struct board first, second;
+static uint64_t number_area[GUARD + SELKAVORN_QUOTE_NUMBERS + GUARD];
+static uint8_t byte_area[GUARD + BYTES_ROOM + GUARD];
+static uint64_t *const numbers = number_area + GUARD;
+static uint8_t *const bytes = byte_area + GUARD;
+
+static uint64_t *store_of(struct board *board)
+{
+    return board->area + GUARD;
+}
+
+static void fresh(struct board *board)
+{
+    for (size_t i = 0; i < sizeof board->area / sizeof *board->area; i++)
+        board->area[i] = GUARD_NUMBER;
+    board->n = STORE_ROOM;
+}
+
+static void before_call(struct board *board)
+{
+    memcpy(board->before, board->area, sizeof board->area);
+    for (size_t i = 0; i < sizeof number_area / sizeof *number_area; i++)
+        number_area[i] = GUARD_NUMBER;
+    memset(byte_area, GUARD_BYTE, sizeof byte_area);
+}
+
+/* The first `may` numbers of the store may differ from before, the others not. */
+static void check_store(const struct board *board, size_t may)
+{
+    const uint64_t *now = board->area, *old = board->before;
+    size_t rest = GUARD + may;
+    check(memcmp(now, old, GUARD * sizeof *now) == 0, "guard before the store");
+    check(memcmp(now + rest, old + rest, sizeof board->area - rest * sizeof *now) == 0,
+          may == 0 ? "store after a refusal" : "beyond the store");
+}
+
+/* The first `wrote` numbers and bytes of the outputs are written, the others not. */
+static void check_outputs(size_t wrote_numbers, size_t wrote_bytes)
+{
+    bool good = true;
+    for (size_t i = 0; i < sizeof number_area / sizeof *number_area; i++)
+        if (i < GUARD || i >= GUARD + wrote_numbers)
+            good = good && number_area[i] == GUARD_NUMBER;
+    for (size_t i = 0; i < sizeof byte_area; i++)
+        if (i < GUARD || i >= GUARD + wrote_bytes)
+            good = good && byte_area[i] == GUARD_BYTE;
+    check(good, "outputs and their guards");
+}
+
+/* ---- the five calls, watched ---- */
+
+static uint64_t open_board(struct board *board, uint64_t depth, const uint64_t *ids, size_t ids_n)
+{
+    before_call(board);
+    uint64_t answer = selkavorn_open(store_of(board), board->n, depth, ids, ids_n);
+    reached[SELKAVORN_ANSWER(answer)] = true;
+    check_store(board, answer == SELKAVORN_DONE ? SELKAVORN_STORE_NUMBERS : 0);
+    check_outputs(0, 0);
+    return answer;
+}
+
+/* Gives a fresh board that follows 7 and 9. */
+static void open_fresh(struct board *board, uint64_t depth)
+{
+    static const uint64_t ids[] = {7, 9};
+    fresh(board);
+    check_equal(open_board(board, depth, ids, 2), SELKAVORN_DONE, "opening");
+}
+
+static uint64_t feed_bytes(struct board *board, const uint8_t *message, size_t n)
+{
+    before_call(board);
+    uint64_t answered = selkavorn_feed(store_of(board), board->n, message, n);
+    uint64_t answer = SELKAVORN_ANSWER(answered);
+    bool changes = answer == SELKAVORN_DONE || answer == SELKAVORN_GAP ||
+                   answer == SELKAVORN_LET_GO || answer == SELKAVORN_TAKEN ||
+                   answer == SELKAVORN_REPLAY_BROKE;
+    reached[answer] = true;
+    check_store(board, changes ? SELKAVORN_STORE_NUMBERS : 0);
+    check_outputs(0, 0);
+    return answered;
+}
+
+static uint64_t quote(struct board *board, uint64_t id, const char *now, uint64_t limit_s,
+                      size_t room)
+{
+    before_call(board);
+    uint64_t answer = selkavorn_quote(store_of(board), board->n, id, (const uint8_t *)now,
+                                      strlen(now), limit_s, numbers, room);
+    reached[SELKAVORN_ANSWER(answer)] = true;
+    check_store(board, 0);
+    check_outputs(answer == SELKAVORN_DONE ? SELKAVORN_QUOTE_NUMBERS : 0, 0);
+    return answer;
+}
+
+static uint64_t state(struct board *board, uint64_t id, size_t room)
+{
+    before_call(board);
+    uint64_t answer = selkavorn_state(store_of(board), board->n, id, numbers, room);
+    reached[SELKAVORN_ANSWER(answer)] = true;
+    check_store(board, 0);
+    check_outputs(answer == SELKAVORN_DONE ? SELKAVORN_STATE_NUMBERS : 0, 0);
+    return answer;
+}
+
+/* What the writer is given beside the board. */
+struct writing {
+    uint64_t id;
+    const char *sender, *target;
+    uint64_t k, m;
+    const char *time;
+    size_t room;
+};
+
+static uint64_t write_book(struct board *board, struct writing w)
+{
+    before_call(board);
+    uint64_t answered = selkavorn_write(store_of(board), board->n, w.id, (const uint8_t *)w.sender,
+                                        strlen(w.sender), (const uint8_t *)w.target,
+                                        strlen(w.target), w.k, w.m, (const uint8_t *)w.time,
+                                        strlen(w.time), bytes, w.room);
+    reached[SELKAVORN_ANSWER(answered)] = true;
+    check_store(board, 0);
+    check_outputs(0, (size_t)SELKAVORN_LENGTH(answered));
+    return answered;
+}
+
+/* ---- messages ---- */
+
+static uint8_t message[MESSAGE_ROOM];
+static size_t message_n;
+
+static unsigned sum_of(const uint8_t *text, size_t n)
+{
+    unsigned sum = 0;
+    for (size_t i = 0; i < n; i++)
+        sum += text[i];
+    return sum % 256;
+}
+
+/* Makes the message with this body: | stands for SOH, 8 and 9 go before it and 10 after it. */
+static void make_list(const char *format, va_list arguments)
+{
+    char body[MESSAGE_ROOM - 64];
+    int n = vsnprintf(body, sizeof body, format, arguments);
+    int head = snprintf((char *)message, MESSAGE_ROOM, "8=FIX.4.4|9=%d|", n);
+    memcpy(message + head, body, (size_t)n);
+    message_n = (size_t)(head + n);
+    for (size_t i = 0; i < message_n; i++)
+        if (message[i] == '|')
+            message[i] = 1;
+    message_n += (size_t)snprintf((char *)message + message_n, MESSAGE_ROOM - message_n,
+                                  "10=%03u\001", sum_of(message, message_n));
+}
+
+static void make(const char *format, ...)
+{
+    va_list arguments;
+    va_start(arguments, format);
+    make_list(format, arguments);
+    va_end(arguments);
+}
+
+/* Feeds the message that was made last. */
+static void feed_made(struct board *board, uint64_t answer, uint64_t waiting, const char *what)
+{
+    check_equal(feed_bytes(board, message, message_n), answer + 256 * waiting, what);
+}
+
+/* Makes a message and feeds it. */
+static void feed(struct board *board, uint64_t answer, uint64_t waiting, const char *what,
+                 const char *format, ...)
+{
+    va_list arguments;
+    va_start(arguments, format);
+    make_list(format, arguments);
+    va_end(arguments);
+    feed_made(board, answer, waiting, what);
+}
+
+#define AT "52=20250103-13:00:00.000|"
+#define STAMP "272=20250103|273=12:59:58.250|"
+#define ENTRY(id, price) "48=" id "|22=8|270=" price "|271=12|37=ORDER-12345|" STAMP
+#define ORDER_12 UINT64_C(0x32312D524544524F) /* ORDER-12, low byte first */
+#define ORDER_345 UINT64_C(0x353433)          /* 345 */
+#define NEW_BID "279=0|269=0|" ENTRY("7", "24.01") "290=1|"
+#define NEW_OFFER "279=0|269=1|" ENTRY("7", "-0.5") "290=1|"
+#define DELETE_BID "279=2|269=0|48=7|22=8|290=1|"
+#define HEARTBEAT "35=0|34=%d|" AT
+#define TEXT HEARTBEAT "58=%0*d|" /* with a value of the given width, of more than 999 bytes */
+#define AROUND_TEXT 63            /* bytes of such a message around that value */
+#define EMPTY_W "35=W|34=1|" AT "48=%d|22=8|369=%d|911=1|268=0|"
+
+/* Makes a snapshot of instrument 7 with that many bids. */
+static void make_bids(int last, int bids)
+{
+    char entries[MESSAGE_ROOM / 2] = "";
+    size_t n = 0;
+    for (int i = 1; i <= bids; i++)
+        n += (size_t)snprintf(entries + n, sizeof entries - n,
+                              "269=0|270=%d|271=1|37=A%d|" STAMP "290=%d|", 100 - i, i, i);
+    make("35=W|34=1|" AT "48=7|22=8|369=%d|911=1|268=%d|%s", last, bids, entries);
+}
+
+/* Makes an X with that many entries that empty the book of instrument 7. */
+static void make_empties(int number, int entries)
+{
+    char text[MESSAGE_ROOM / 2] = "";
+    for (int i = 0; i < entries; i++)
+        strcat(text, "279=0|269=J|48=7|22=8|");
+    make("35=X|34=%d|" AT "268=%d|%s", number, entries, text);
+}
+
+/* ---- the groups ---- */
+
+static void test_opening(void)
+{
+    static const uint64_t ids[17] = {1, 2, 3, 4, 5, 6, 7, 8, 9, 10, 11, 12, 13, 14, 15, 16, 17};
+    static const uint64_t twice[] = {7, 9, 7}, zero[] = {7, 0}, long_id[] = {1000000000000000000};
+    static const uint64_t longest[] = {999999999999999999};
+    begin("opening");
+    fresh(&first);
+    check((uintptr_t)store_of(&first) % 16 == 8, "the store starts at an odd multiple of 8 bytes");
+    check_equal(open_board(&first, 0, ids, 16), SELKAVORN_DONE, "16 instruments");
+    check_equal(open_board(&first, 1, longest, 1), SELKAVORN_DONE, "a SecurityID of 18 digits");
+    check_equal(open_board(&first, 2, ids, 1), SELKAVORN_ARGUMENT, "another depth");
+    check_equal(open_board(&first, UINT64_MAX, ids, 1), SELKAVORN_ARGUMENT, "another depth");
+    check_equal(open_board(&first, 0, ids, 17), SELKAVORN_ARGUMENT, "17 instruments");
+    check_equal(open_board(&first, 0, ids, 0), SELKAVORN_ARGUMENT, "no instrument");
+    check_equal(open_board(&first, 0, NULL, 0), SELKAVORN_ARGUMENT, "no instrument, NULL");
+    check_equal(open_board(&first, 0, twice, 3), SELKAVORN_ARGUMENT, "an instrument twice");
+    check_equal(open_board(&first, 0, zero, 2), SELKAVORN_ARGUMENT, "SecurityID 0");
+    check_equal(open_board(&first, 0, long_id, 1), SELKAVORN_ARGUMENT, "19 digits");
+    first.n = SELKAVORN_STORE_NUMBERS;
+    check_equal(open_board(&first, 0, ids, 3), SELKAVORN_DONE, "a store of 7,168");
+    first.n = SELKAVORN_STORE_NUMBERS - 1;
+    check_equal(open_board(&first, 0, ids, 3), SELKAVORN_STORE, "a store of 7,167");
+    check_equal(open_board(&first, 2, NULL, 0), SELKAVORN_STORE, "17 before 18");
+    check_equal(selkavorn_open(NULL, 0, 0, ids, 3), SELKAVORN_STORE, "no store");
+    end();
+}
+
+static void test_counting(void)
+{
+    begin("counting");
+    open_fresh(&first, SELKAVORN_ORDER_DEPTH);
+    feed(&first, SELKAVORN_DONE, 2, "1 in order", HEARTBEAT, 1);
+    feed(&first, SELKAVORN_GAP, 2, "3 is a gap", HEARTBEAT, 3);
+    feed(&first, SELKAVORN_OLD, 2, "2 is old", HEARTBEAT, 2);
+    feed(&first, SELKAVORN_OLD, 2, "3 again is old", HEARTBEAT, 3);
+    feed(&first, SELKAVORN_SNAPSHOT_BELOW, 2, "369 = 1 is below B", EMPTY_W, 7, 1);
+    feed(&first, SELKAVORN_SNAPSHOT_ABOVE, 2, "369 = 4 is above H", EMPTY_W, 7, 4);
+    feed(&first, SELKAVORN_TAKEN, 1, "369 = 2 is taken", EMPTY_W, 7, 2);
+    feed(&first, SELKAVORN_SNAPSHOT_LIVE, 1, "7 is already Live", EMPTY_W, 7, 3);
+    feed(&first, SELKAVORN_SNAPSHOT_UNFOLLOWED, 1, "8 is not followed", EMPTY_W, 8, 3);
+    make_bids(3, 21);
+    feed_made(&first, SELKAVORN_SNAPSHOT_LIVE, 1, "Live comes before a side over 20");
+    feed(&first, SELKAVORN_TAKEN, 0, "none waits", EMPTY_W, 9, 3);
+    feed(&first, SELKAVORN_GAP, 2, "all wait after a gap", HEARTBEAT, 9);
+    make_bids(9, 21);
+    feed_made(&first, SELKAVORN_SNAPSHOT_OVER, 2, "21 bids");
+    make_bids(9, 20);
+    feed_made(&first, SELKAVORN_TAKEN, 1, "20 bids");
+    feed(&first, SELKAVORN_DONE, 2, "no room breaks", "35=X|34=10|" AT "268=1|" NEW_BID);
+    check_equal(state(&first, 7, SELKAVORN_STATE_NUMBERS), SELKAVORN_DONE, "state");
+    check_equal(numbers[SELKAVORN_STATE_REASON], SELKAVORN_REASON_NO_ROOM, "reason 2");
+    end();
+}
+
+static void test_queue(void)
+{
+    begin("queue");
+    open_fresh(&first, SELKAVORN_ORDER_DEPTH);
+    for (int number = 1; number <= 4; number++) {
+        make_empties(number, 64);
+        feed_made(&first, SELKAVORN_DONE, 2, "64 entries join");
+    }
+    feed(&first, SELKAVORN_DONE, 2, "256 entries stay", HEARTBEAT, 5);
+    make_empties(6, 1);
+    feed_made(&first, SELKAVORN_LET_GO, 2, "257 are let go");
+    feed(&first, SELKAVORN_SNAPSHOT_BELOW, 2, "B is 6", EMPTY_W, 7, 5);
+    feed(&first, SELKAVORN_DONE, 2, "7 is queued", "35=X|34=7|" AT "268=1|" DELETE_BID);
+    feed(&first, SELKAVORN_REPLAY_BROKE, 2, "its place is not there", EMPTY_W, 7, 6);
+    check_equal(state(&first, 7, SELKAVORN_STATE_NUMBERS), SELKAVORN_DONE, "state");
+    check_equal(numbers[SELKAVORN_STATE_WAITING], 1, "still Waiting");
+    check_equal(numbers[SELKAVORN_STATE_REASON], SELKAVORN_REASON_PLACE, "reason 1");
+    make_bids(6, 2);
+    feed_made(&first, SELKAVORN_TAKEN, 1, "with a bid to delete it is taken");
+    check_equal(state(&first, 7, SELKAVORN_STATE_NUMBERS), SELKAVORN_DONE, "state");
+    check_equal(numbers[SELKAVORN_STATE_WAITING], 0, "Live");
+    check_equal(numbers[SELKAVORN_STATE_REASON], SELKAVORN_REASON_NONE, "reason 0");
+    check_equal(numbers[SELKAVORN_STATE_BIDS], 1, "one bid");
+    check_equal(numbers[SELKAVORN_STATE_OFFERS], 0, "no offer");
+    end();
+}
+
+static void test_messages(void)
+{
+    begin("messages");
+    open_fresh(&first, SELKAVORN_ORDER_DEPTH);
+    check_equal(feed_bytes(&first, NULL, 0), SELKAVORN_FRAME + 2 * 256, "no bytes, NULL");
+    make(HEARTBEAT, 1);
+    for (size_t n = 0; n < message_n; n++)
+        check_equal(feed_bytes(&first, message, n), SELKAVORN_FRAME + 2 * 256, "cut short");
+    check_equal(feed_bytes(&first, message, message_n + 1), SELKAVORN_FRAME + 2 * 256, "too long");
+    message[message_n - 2] = message[message_n - 2] == '0' ? '1' : '0';
+    feed_made(&first, SELKAVORN_CHECKSUM, 2, "another sum");
+    feed(&first, SELKAVORN_TYPE, 2, "a sequence reset", "35=4|34=1|" AT "36=1|");
+    feed(&first, SELKAVORN_FIELDS, 2, "34 = 0", "35=0|34=0|" AT);
+    make(TEXT, 1, SELKAVORN_LONGEST_MESSAGE - AROUND_TEXT, 0);
+    check_equal(message_n, SELKAVORN_LONGEST_MESSAGE, "8,192 bytes are made");
+    feed_made(&first, SELKAVORN_DONE, 2, "8,192 bytes are read");
+    make(TEXT, 2, SELKAVORN_LONGEST_MESSAGE - AROUND_TEXT + 1, 0);
+    feed_made(&first, SELKAVORN_FRAME, 2, "8,193 bytes are not");
+    end();
+}
+
+/* All calls on a store that must be refused. */
+static void check_refused_store(const char *what)
+{
+    struct writing w = {7, "SHED", "YARD", 1, 1, "20250103-13:00:00.000", BYTES_ROOM};
+    feed(&first, SELKAVORN_STORE, 0, what, HEARTBEAT, 1);
+    check_equal(quote(&first, 7, "20250103-13:00:00", 30, 17), SELKAVORN_STORE, what);
+    check_equal(state(&first, 7, 4), SELKAVORN_STORE, what);
+    check_equal(write_book(&first, w), SELKAVORN_STORE, what);
+    w.k = 0;
+    check_equal(feed_bytes(&first, NULL, 0), SELKAVORN_STORE, "17 before 11");
+    check_equal(quote(&first, 0, "", 86401, 0), SELKAVORN_STORE, "17 before 18");
+    check_equal(state(&first, 0, 0), SELKAVORN_STORE, "17 before 18");
+    check_equal(write_book(&first, w), SELKAVORN_STORE, "17 before 18");
+}
+
+static void test_store(void)
+{
+    begin("store");
+    open_fresh(&first, SELKAVORN_ORDER_DEPTH);
+    first.n = SELKAVORN_STORE_NUMBERS - 1;
+    check_refused_store("a store of 7,167");
+    first.n = 0;
+    check_refused_store("a store of none");
+    first.n = STORE_ROOM;
+    memset(store_of(&first), 0, STORE_ROOM * sizeof(uint64_t));
+    check_refused_store("a store that was never opened");
+    open_fresh(&first, SELKAVORN_ORDER_DEPTH);
+    bool noticed = true;
+    for (size_t i = 0; i < SELKAVORN_STORE_NUMBERS; i++) {
+        uint64_t *place = store_of(&first) + i, kept = *place, out[SELKAVORN_STATE_NUMBERS];
+        *place = UINT64_MAX;
+        noticed = noticed && selkavorn_state(store_of(&first), first.n, 7, out,
+                                             SELKAVORN_STATE_NUMBERS) == SELKAVORN_STORE;
+        *place = kept;
+    }
+    check(noticed, "each number, when it is out of its range");
+    store_of(&first)[SELKAVORN_STORE_NUMBERS] = 1;
+    check_equal(state(&first, 7, SELKAVORN_STATE_NUMBERS), SELKAVORN_DONE, "beyond is not read");
+    first.n = SELKAVORN_STORE_NUMBERS;
+    check_equal(state(&first, 7, SELKAVORN_STATE_NUMBERS), SELKAVORN_DONE, "a store of 7,168");
+    check_equal(selkavorn_feed(NULL, 0, NULL, 0), SELKAVORN_STORE, "no store, NULL");
+    end();
+}
+
+/* Makes both sides of 7 Live with one place each at number 1, and 9 Waiting. */
+static void open_with_book(struct board *board)
+{
+    open_fresh(board, SELKAVORN_ORDER_DEPTH);
+    feed(board, SELKAVORN_TAKEN, 1, "369 = 0 on a fresh board", EMPTY_W, 7, 0);
+    feed(board, SELKAVORN_DONE, 1, "both sides", "35=X|34=1|" AT "268=2|" NEW_BID NEW_OFFER);
+}
+
+static void test_quote_arguments(void)
+{
+    static const char *const bad[] = {
+        "", "20250103", "20250103-13:00", "20250229-13:00:00", "19000229-13:00:00",
+        "20250103-24:00:00", "20250103-13:60:00", "20250103-13:00:61", "20250103-13:00:00.",
+        "20250103-13:00:00.00", "20250103-13:00:00.0000", "20250103 13:00:00",
+        "20250103-13:00:00Z"};
+    begin("arguments of a quote");
+    open_with_book(&first);
+    for (size_t i = 0; i < sizeof bad / sizeof *bad; i++)
+        check_equal(quote(&first, 7, bad[i], 30, 17), SELKAVORN_ARGUMENT, bad[i]);
+    check_equal(selkavorn_quote(store_of(&first), first.n, 7, NULL, 0, 30, numbers, 17),
+                SELKAVORN_ARGUMENT, "no moment, NULL");
+    check_equal(quote(&first, 7, "20250103-13:00:00", 86401, 17), SELKAVORN_ARGUMENT, "limit");
+    check_equal(quote(&first, 0, "20250103-13:00:00", 30, 17), SELKAVORN_ARGUMENT, "SecurityID 0");
+    check_equal(quote(&first, UINT64_MAX, "20250103-13:00:00", 30, 17), SELKAVORN_ARGUMENT, "id");
+    check_equal(quote(&first, 7, "20250103-13:00:00", 30, 16), SELKAVORN_ARGUMENT, "room of 16");
+    check_equal(quote(&first, 7, "20250103-13:00:00", 30, 0), SELKAVORN_ARGUMENT, "no room");
+    check_equal(selkavorn_quote(store_of(&first), first.n, 7, (const uint8_t *)"20250103-13:00:00",
+                                17, 30, NULL, 0),
+                SELKAVORN_ARGUMENT, "no room, NULL");
+    check_equal(quote(&first, 8, "20250103-13:00:00", 30, 16), SELKAVORN_ARGUMENT, "18 before 20");
+    check_equal(state(&first, 7, 3), SELKAVORN_ARGUMENT, "state, room of 3");
+    check_equal(state(&first, 0, 4), SELKAVORN_ARGUMENT, "state, SecurityID 0");
+    check_equal(selkavorn_state(store_of(&first), first.n, 7, NULL, 0), SELKAVORN_ARGUMENT,
+                "state, no room, NULL");
+    check_equal(state(&first, 8, 4), SELKAVORN_UNFOLLOWED, "state, not followed");
+    check_equal(state(&first, 9, 17), SELKAVORN_DONE, "state, more room");
+    end();
+}
+
+static void test_quote(void)
+{
+    static const uint64_t wanted[SELKAVORN_QUOTE_NUMBERS] = {
+        1, 20250103, 130000000,
+        1, 240100000, 12, ORDER_12, ORDER_345, 20250103, 125958250,
+        1, (uint64_t)-5000000, 12, ORDER_12, ORDER_345, 20250103, 125958250};
+    begin("quote");
+    open_fresh(&first, SELKAVORN_ORDER_DEPTH);
+    check_equal(quote(&first, 8, "20250103-13:00:00", 30, 17), SELKAVORN_UNFOLLOWED, "8");
+    check_equal(quote(&first, 7, "20250103-13:00:00", 30, 17), SELKAVORN_WAITING, "7 waits");
+    feed(&first, SELKAVORN_TAKEN, 1, "369 = 0", EMPTY_W, 7, 0);
+    check_equal(quote(&first, 7, "20250103-13:00:00", 30, 17), SELKAVORN_UNHEARD, "H = 0");
+    open_with_book(&first);
+    check_equal(quote(&first, 9, "20250103-13:00:00", 30, 17), SELKAVORN_WAITING, "9 waits");
+    check_equal(quote(&first, 7, "20250103-12:59:59.999", 30, 17), SELKAVORN_AGE_BELOW, "before");
+    check_equal(quote(&first, 7, "20250103-13:00:30.001", 30, 17), SELKAVORN_AGE_ABOVE, "after");
+    check_equal(quote(&first, 7, "20250103-13:00:30", 30, 17), SELKAVORN_DONE, "at the limit");
+    check_equal(quote(&first, 7, "20250104-13:00:00.000", 86400, 17), SELKAVORN_DONE, "a day");
+    check_equal(quote(&first, 7, "20250104-12:59:60.001", 86400, 17), SELKAVORN_AGE_ABOVE, "60 s");
+    check_equal(quote(&first, 7, "20250103-13:00:00.000", 0, 20), SELKAVORN_DONE, "more room");
+    for (size_t i = 0; i < SELKAVORN_QUOTE_NUMBERS; i++)
+        check_equal(numbers[i], wanted[i], "a number of the quote");
+    feed(&first, SELKAVORN_DONE, 1, "bid deleted", "35=X|34=2|" AT "268=1|" DELETE_BID);
+    check_equal(quote(&first, 7, "20250103-13:00:00", 0, 17), SELKAVORN_DONE, "one side");
+    for (size_t i = 0; i < 7; i++)
+        check_equal(numbers[SELKAVORN_QUOTE_BID + i], 0, "an empty side is zeros");
+    check_equal(numbers[SELKAVORN_QUOTE_OFFER], 1, "the offer is held");
+    end();
+}
+
+/* Writes by the first board with one argument that is not good. */
+static void check_argument(struct writing w, const char *what)
+{
+    check_equal(write_book(&first, w), SELKAVORN_ARGUMENT, what);
+}
+
+static void test_writing_arguments(void)
+{
+    static const char *const names[] = {"",       "ABCDEFGHIJKLMNOPQ", "A B", "A\001B",
+                                        "A\177", "\303\251"};
+    static const uint64_t k_m[][2] = {{0, 1}, {2, 1}, {1, 17}, {17, 17}, {0, 0}, {1, UINT64_MAX}};
+    static const char good[] = "20250103-13:00:00", bad[] = "20250103-25:00:00";
+    begin("arguments of a writing");
+    open_with_book(&first);
+    for (size_t i = 0; i < sizeof names / sizeof *names; i++) {
+        check_argument((struct writing){7, names[i], "YARD", 1, 1, good, BYTES_ROOM}, "sender");
+        check_argument((struct writing){7, "SHED", names[i], 1, 1, good, BYTES_ROOM}, "target");
+    }
+    for (size_t i = 0; i < sizeof k_m / sizeof *k_m; i++)
+        check_argument((struct writing){7, "SHED", "YARD", k_m[i][0], k_m[i][1], good, BYTES_ROOM},
+                       "k and m");
+    check_argument((struct writing){7, "SHED", "YARD", 1, 1, bad, BYTES_ROOM}, "time");
+    check_argument((struct writing){0, "SHED", "YARD", 1, 1, good, BYTES_ROOM}, "SecurityID 0");
+    check_argument((struct writing){8, "SHED", "YARD", 0, 1, good, 0}, "18 before 20");
+    check_equal(write_book(&first, (struct writing){8, "SHED", "YARD", 1, 1, good, 0}),
+                SELKAVORN_UNFOLLOWED, "8 is not followed, 20 before 25");
+    check_equal(write_book(&first, (struct writing){9, "SHED", "YARD", 1, 1, good, 0}),
+                SELKAVORN_WAITING, "9 waits, 21 before 25");
+    check_equal(selkavorn_write(store_of(&first), first.n, 7, NULL, 0, NULL, 0, 1, 1, NULL, 0, NULL,
+                                0),
+                SELKAVORN_ARGUMENT, "no names, NULL");
+    check_equal(selkavorn_write(store_of(&first), first.n, 7, (const uint8_t *)"S", 1,
+                                (const uint8_t *)"Y", 1, 1, 1, (const uint8_t *)good, 17, NULL, 0),
+                SELKAVORN_OUTPUT, "no room, NULL");
+    end();
+}
+
+/* Writes with more room than is needed, with exactly enough, and with one byte less. */
+static void check_rooms(struct writing w, uint64_t length)
+{
+    w.room = BYTES_ROOM;
+    check_equal(write_book(&first, w), 256 * length, "more room");
+    w.room = (size_t)length - 1;
+    check_equal(write_book(&first, w), SELKAVORN_OUTPUT, "one byte short");
+    w.room = 0;
+    check_equal(write_book(&first, w), SELKAVORN_OUTPUT, "no room");
+    w.room = (size_t)length;
+    check_equal(write_book(&first, w), 256 * length, "exactly enough room");
+}
+
+/* Opens one instrument of 18 digits at the highest number, with 20 bids and offers of the longest
+ * kind. */
+static void open_longest(void)
+{
+    static const uint64_t id[] = {999999999999999999};
+    char entries[MESSAGE_ROOM / 2] = "";
+    size_t n = 0;
+    for (int i = 0; i < 40; i++)
+        n += (size_t)snprintf(entries + n, sizeof entries - n,
+                              "269=%d|270=-999999999.9999999|271=999999999999|37=ABCDEFGHIJKLMNOP|"
+                              "272=20250103|273=12:59:58.250|290=%d|",
+                              i / 20, i % 20 + 1);
+    fresh(&first);
+    check_equal(open_board(&first, 0, id, 1), SELKAVORN_DONE, "opening");
+    feed(&first, SELKAVORN_GAP, 1, "the highest number", "35=0|34=4294967295|" AT);
+    make("35=W|34=1|" AT "48=999999999999999999|22=8|369=4294967295|911=1|268=40|%s", entries);
+    feed_made(&first, SELKAVORN_TAKEN, 0, "40 places");
+}
+
+static void test_writing(void)
+{
+    static const char wanted[] =
+        "8=FIX.4.4|9=88|35=W|49=SHED|56=YARD|34=1|52=20250103-13:00:00.000|48=7|22=8|207=BVMF|"
+        "369=0|911=1|268=0|10=029|";
+    struct writing w = {7, "SHED", "YARD", 1, 1, "20250103-13:00:00.000", BYTES_ROOM};
+    begin("writing");
+    open_fresh(&first, SELKAVORN_ORDER_DEPTH);
+    feed(&first, SELKAVORN_TAKEN, 1, "369 = 0", EMPTY_W, 7, 0);
+    check_rooms(w, 110);
+    bool same = true;
+    for (size_t i = 0; i < 110; i++)
+        same = same && bytes[i] == (wanted[i] == '|' ? 1 : wanted[i]);
+    check(same, "the message of an empty book");
+    w = (struct writing){7, "S", "Y", 1, 1, "20250103-13:00:00", BYTES_ROOM};
+    check_rooms(w, SELKAVORN_SHORTEST_WRITING);
+    open_longest();
+    w = (struct writing){999999999999999999, "ABCDEFGHIJKLMNOP", "abcdefghijklmnop", 16, 16,
+                         "20250103-13:00:00.000", BYTES_ROOM};
+    check_rooms(w, SELKAVORN_LONGEST_WRITING);
+    end();
+}
+
+/* Writes the book of 7 from the first board, gives it to a fresh second one, and compares. */
+static void check_round_trip(uint64_t depth, int number)
+{
+    struct writing w = {7, "SHED", "YARD", 1, 1, "20250103-13:00:09.000", BYTES_ROOM};
+    uint64_t quoted[SELKAVORN_QUOTE_NUMBERS];
+    uint8_t written[BYTES_ROOM];
+    size_t n = (size_t)SELKAVORN_LENGTH(write_book(&first, w));
+    memcpy(written, bytes, n);
+    check_equal(quote(&first, 7, "20250103-13:00:00", 0, 17), SELKAVORN_DONE, "first quote");
+    memcpy(quoted, numbers, sizeof quoted);
+    open_fresh(&second, depth);
+    feed(&second, number == 1 ? SELKAVORN_DONE : SELKAVORN_GAP, 2, "heard", HEARTBEAT, number);
+    check_equal(feed_bytes(&second, written, n), SELKAVORN_TAKEN + 256, "the writing is taken");
+    check_equal(quote(&second, 7, "20250103-13:00:00", 0, 17), SELKAVORN_DONE, "second quote");
+    check(memcmp(quoted, numbers, sizeof quoted) == 0, "the quotes are the same");
+    check_equal(write_book(&second, w), 256 * n, "written again");
+    check(memcmp(written, bytes, n) == 0, "the messages are the same");
+}
+
+static void test_round_trip(void)
+{
+    begin("round trip");
+    open_with_book(&first);
+    check_round_trip(SELKAVORN_ORDER_DEPTH, 1);
+    make("35=X|34=2|" AT "268=2|279=0|269=0|" ENTRY("7", "007.50") "290=2|" DELETE_BID);
+    feed_made(&first, SELKAVORN_DONE, 1, "another bid");
+    check_round_trip(SELKAVORN_ORDER_DEPTH, 2);
+    open_fresh(&first, SELKAVORN_PRICE_DEPTH);
+    feed(&first, SELKAVORN_TAKEN, 1, "369 = 0", EMPTY_W, 7, 0);
+    make("35=X|34=1|" AT "268=1|279=0|269=1|48=7|22=8|270=-0.0000001|271=1|346=65535|"
+         "272=00000229|273=23:59:60|290=1|");
+    feed_made(&first, SELKAVORN_DONE, 1, "a price place");
+    check_round_trip(SELKAVORN_PRICE_DEPTH, 1);
+    check_equal(quote(&first, 7, "20250103-13:00:00", 0, 17), SELKAVORN_DONE, "price depth");
+    const uint64_t *offer = numbers + SELKAVORN_QUOTE_OFFER;
+    check_equal(offer[SELKAVORN_SIDE_PRICE], UINT64_MAX, "one ten-millionth below 0");
+    check_equal(offer[SELKAVORN_SIDE_BY], 65535, "the number of orders");
+    check_equal(offer[SELKAVORN_SIDE_MORE], 0, "no more of it");
+    check_equal(offer[SELKAVORN_SIDE_DATE], 229, "29 February 0000");
+    check_equal(offer[SELKAVORN_SIDE_TIME], 235960000, "a second of 60 stays 60");
+    end();
+}
+
+static void test_copy(void)
+{
+    begin("copy of a store");
+    open_with_book(&first);
+    fresh(&second);
+    memcpy(store_of(&second), store_of(&first), SELKAVORN_STORE_NUMBERS * sizeof(uint64_t));
+    feed(&first, SELKAVORN_GAP, 2, "a gap on the first", HEARTBEAT, 3);
+    check_equal(quote(&first, 7, "20250103-13:00:00", 0, 17), SELKAVORN_WAITING, "first");
+    check_equal(quote(&second, 7, "20250103-13:00:00", 0, 17), SELKAVORN_DONE, "second");
+    check_equal(numbers[SELKAVORN_QUOTE_NUMBER], 1, "the copy is still at 1");
+    open_fresh(&first, SELKAVORN_ORDER_DEPTH);
+    feed(&second, SELKAVORN_DONE, 1, "the copy counts on", HEARTBEAT, 2);
+    end();
+}
+
+static void test_reached(void)
+{
+    char name[32];
+    begin("answer numbers reached");
+    for (unsigned answer = 0; answer < 256; answer++) {
+        bool known = answer <= 14 || answer == 17 || answer == 18 || (answer >= 20 && answer <= 25);
+        snprintf(name, sizeof name, "answer %u", answer);
+        if (known || reached[answer])
+            check(known && reached[answer], name);
+    }
+    end();
+}
+
+int main(void)
+{
+    test_opening();
+    test_counting();
+    test_queue();
+    test_messages();
+    test_store();
+    test_quote_arguments();
+    test_quote();
+    test_writing_arguments();
+    test_writing();
+    test_round_trip();
+    test_copy();
+    test_reached();
+    printf("%u passed, %u failed\n", passed, failed);
+    return failed == 0 ? 0 : 1;
+}
