@@ -1,14 +1,14 @@
 -- The heading's tests as facts, both ways.
-use mathlib.Core.Path.{_≡_, refl, sym, _∙_}
-use mathlib.Core.Bool.{Bool, true, false, cond, not, _&&_, _||_, true≢false}
+use mathlib.Core.Path.{_≡_, refl}
+use mathlib.Core.Bool.{Bool, true, false, cond, not, _&&_, _||_}
 use mathlib.Core.List.{List}
 use Prim.Native.Nat.{ℕ, _+_, _*_, _/_, _%_, _^_, _≤_, _<_}
 use native.Mathlib.Nat.{div-eq-of-lt, mod-lt}
 use native.Mathlib.Omega.{arith}
-use lib.Dec.{ltb, leb, eqb}
+use lib.Dec.{leb, eqb}
 use lib.ListN.{getD}
 use lib.Pow.{pow-pos, split}
-use borrow.Author.Tests.{leb-true, ltb-true, eqb-true, eqb-false, le-leb, lt-ltb, eq-eqb, ne-eqb}
+use borrow.Author.Tests.{leb-true, eqb-true, le-leb, lt-ltb, eq-eqb}
 use Rattle.board.specs.Ranges.{mostNumber, momentFine}
 use Rattle.board.specs.Sound.{heardFine}
 use Rattle.board.proofs.Tested.{both, and-true}

@@ -1,6 +1,6 @@
 -- The scan of a store: tests of its numbers by position, in the order in which the code goes. Crate sound shows that it finds
 -- exactly the sound stores.
-use mathlib.Core.Bool.{Bool, true, false, cond, not, _&&_, _||_}
+use mathlib.Core.Bool.{Bool, true, cond, not, _&&_, _||_}
 use mathlib.Core.List.{List}
 use Prim.Native.Nat.{ℕ, zero, suc, _+_, _*_, _-_, _/_, _^_}
 use lib.Dec.{ltb, leb, eqb}
@@ -10,7 +10,7 @@ use Rattle.cells.specs.Cells.{tab}
 use Rattle.heading.specs.Marks.{marked}
 use Rattle.board.specs.Ranges.{within, mostNumber, idFine, momentFine}
 use Rattle.board.specs.Sound.{distinct}
-use Rattle.store.specs.Layout.{storeSize, layoutNumber, atLayout, atDepth, atFollowed, atNumber, atBase, atHeard, atMarks, atQueued, idOf, bidsOf, offersOf, slotOf}
+use Rattle.store.specs.Layout.{storeSize, layoutNumber, atLayout, atDepth, atFollowed, atNumber, atBase, atHeard, atMarks, atQueued, idOf, bidsOf, slotOf}
 
 -- f of each number below n.
 unfoldable pub each : (ℕ → Bool) → ℕ → Bool

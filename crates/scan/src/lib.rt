@@ -7,12 +7,14 @@ ghost use Rattle.board.specs.Sound.{distinct, among};
 ghost use Rattle.store.specs.Layout.{storeSize, atFollowed, atBase, atQueued};
 ghost use Rattle.scan.specs.Scan.{allZero, headingScan, recordScan, spread, recordsScan, mostOf, fullOf, moreTo, entryScan, sideScan, roomOf, bookScan, booksScan, updateScan, slotScan, queueScan, restScan, scan};
 
-// The store's numbers, and the number of its layout.
+// The store's numbers.
 const STORE: usize = 7168;
 
+// The number of this layout.
 const LAYOUT: u64 = 4601;
 
-// The heading: where its numbers stand, and its spare ones.
+// The heading: where the layout's number, the depth kind, how many are followed, H, B, the heard moment, the marks and how many
+// are queued stand.
 const AT_LAYOUT: usize = 0;
 
 const DEPTH: usize = 1;
@@ -29,18 +31,19 @@ const MARKS: usize = 6;
 
 const QUEUED: usize = 7;
 
+// The spare numbers behind the heading: where they start, and how many there are.
 const HEADING: usize = 8;
 
 const SPARE: usize = 24;
 
-// The records of 16 instruments, the sides in pairs, the queue and what is spare behind it: where they start, how far apart
-// they stand, how many numbers they take.
+// The instruments' records: where they start, how far apart they stand, how many numbers 16 take.
 const IDS: usize = 32;
 
 const RECORD: usize = 8;
 
 const RECORDS: usize = 128;
 
+// The books: where they start, a side's numbers, a book's, and those of 16.
 const SIDES: usize = 160;
 
 const SIDE: usize = 128;
@@ -49,47 +52,57 @@ const BOOK: usize = 256;
 
 const BOOKS: usize = 4096;
 
+// The queue: where it starts, how far apart its entries stand, its numbers with the spare ones behind it.
 const QUEUE: usize = 4256;
 
 const SLOT: usize = 11;
 
 const QUEUE_AND_SPARE: usize = 2912;
 
-// An entry's numbers; those of a side's 20 places, and its spare ones.
+// An entry's numbers, those of a side's 20 places, and the spare ones behind them.
 const ENTRY: usize = 5;
 
 const PLACES: usize = 100;
 
 const SIDE_SPARE: usize = 27;
 
-// The ranges of document 01: instruments, places, queued entries, 34, 48, reasons, 270 as it is held, 271, moments, 279, 290.
+// A channel follows at most 16 instruments, a side holds at most 20 places, the queue at most 256 entries.
 const MOST_INSTS: u64 = 16;
 
 const MOST_PLACES: usize = 20;
 
 const MOST_QUEUED: u64 = 256;
 
+// 34 and 369.
 const MOST_NUMBER: u64 = 4294967295;
 
+// 48: 18 digits.
 const MOST_ID: u64 = 999999999999999999;
 
+// Reasons are 0, 1 and 2.
 const MOST_REASON: u64 = 2;
 
+// 270, as the number that holds it.
 const MOST_PRICE: u64 = 19999999999999998;
 
+// 271.
 const MOST_SIZE: u64 = 999999999999;
 
+// A moment is below this many.
 const MOMENTS: u64 = 320829012000000;
 
+// 279.
 const MOST_ACTION: u64 = 4;
 
+// 290.
 const MOST_PLACE: u64 = 65535;
 
-// 37's words, and those of 8 bytes; 346, of which none is one.
+// 37 in words of up to 8 bytes: the last word, and the first of 8 bytes.
 const MOST_WORD: u64 = 6161234432565770;
 
 const FULL_WORD: u64 = 65545047154955;
 
+// 346: the most orders, and one more.
 const MOST_ORDERS: u64 = 65535;
 
 const NO_WORD: u64 = 65536;

@@ -1,29 +1,26 @@
 -- A store that holds the numbers of a board is read as that board, and what it doesn't use is zero.
-use mathlib.Core.Path.{_≡_, refl, sym, ap, _∙_}
-use mathlib.Core.Bool.{Bool, false}
-use mathlib.Core.List.{List, [], _∷_}
+use mathlib.Core.Path.{_≡_, sym, ap, _∙_}
+use mathlib.Core.Bool.{false}
+use mathlib.Core.List.{List, []}
 use Prim.Native.Nat.{ℕ, zero, suc, _+_, _*_, _/_, _%_, _≤_, _<_}
 use native.Mathlib.Nat.{add-zero}
 use native.Mathlib.Omega.{arith}
 use lib.ListN.{length, getD}
 use lib.Seq.{ext-getD}
 use Rattle.book.specs.declared.Entry.{Entry}
-use Rattle.book.specs.declared.Side.{Side}
-use Rattle.book.specs.declared.Book.{Book}
 use Rattle.book.specs.Rules.{Lists, mostPlaces}
-use Rattle.book.specs.Canonical.{KeptBook, sideOf, listsIn, bookOf}
+use Rattle.book.specs.Canonical.{sideOf, listsIn, bookOf}
 use Rattle.book.proofs.Canon.{held-of, kept-book-of}
 use Rattle.book.proofs.Padding.{length-pad}
-use Rattle.cells.specs.Cells.{tab, zeros, sideAt, sideWords, updateAt, updateWords}
+use Rattle.cells.specs.Cells.{tab, sideAt, sideWords, updateAt}
 use Rattle.cells.proofs.Tables.{length-tab, getD-tab, getD-zeros}
-use Rattle.cells.proofs.Windows.{Same, side-ext, side-words, update-ext, update-words}
+use Rattle.cells.proofs.Windows.{side-ext, side-words, update-ext, update-words}
 use Rattle.heading.specs.declared.Heading.{Heading}
-use Rattle.heading.specs.Marks.{marked}
 use Rattle.board.specs.Board.{Inst, Queued, Board, noInst, anyWaiting}
 use Rattle.board.specs.Sound.{SoundInst, Sound}
 use Rattle.board.proofs.Each.{each-at}
 use Rattle.store.specs.Layout.{idOf, reasonOf, bidsOf, offersOf, slotOf}
-use Rattle.store.specs.Meaning.{headingAt, headWords, headingOf, bookAt, instAt, queuedAt, boardOf, boardAt, recordWords, slotWords, marksOf, loaded, written}
+use Rattle.store.specs.Meaning.{headingAt, headingOf, bookAt, instAt, queuedAt, boardOf, boardAt, recordWords, slotWords, marksOf, loaded, written}
 use Rattle.store.specs.Canon.{Formed, Canon}
 use Rattle.store.proofs.Decode.{inst-is, queue-length}
 use borrow.Author.Tests.{eq-eqb}
@@ -57,9 +54,6 @@ module _ (xs : List ℕ) (b : Board) (h : Holds xs b) (few : length (b .insts) �
   layout-back = h 0 (omega arith)
 
   module _ (i : ℕ) (l : i < length (b .insts)) where
-    x : Inst
-    x = getD (b .insts) i noInst
-
     pub id-back : getD xs (idOf i) 0 ≡ getD (b .insts) i noInst .id
     id-back = h (idOf i) (omega arith) ∙ rw add-zero at (record-in b i 0 (omega arith) l (omega arith))
 

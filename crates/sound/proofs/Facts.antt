@@ -1,6 +1,6 @@
 -- The facts of the scan are that the store is one that crate store's calls may find, and that its board is sound.
 use mathlib.Core.Path.{_≡_, refl, sym, ap, _∙_}
-use mathlib.Core.Bool.{Bool, true, false, cond, not}
+use mathlib.Core.Bool.{Bool, true, false, cond}
 use mathlib.Core.List.{List, [], _∷_}
 use Prim.Native.Nat.{ℕ, zero, suc, _+_, _*_, _≤_, _<_}
 use native.Mathlib.Omega.{arith}
@@ -8,20 +8,18 @@ use lib.Dec.{eqb}
 use lib.ListN.{length, getD, take}
 use borrow.Author.Tests.{eqb-true, eq-eqb, not-false}
 use Rattle.book.specs.declared.Entry.{Entry}
-use Rattle.book.specs.declared.Side.{Side}
-use Rattle.book.specs.Rules.{Lists, empty}
+use Rattle.book.specs.Rules.{Lists}
 use Rattle.book.specs.Canonical.{Kept, heldIn}
 use Rattle.book.proofs.Canon.{length-held}
 use Rattle.cells.specs.Cells.{tab, sideAt}
 use Rattle.cells.proofs.Tables.{length-tab, getD-tab, map-tab}
 use Rattle.heading.specs.Marks.{marked}
-use Rattle.board.specs.Board.{Inst, Queued, Board, idsOf, noInst, anyWaiting}
-use Rattle.board.specs.Sound.{distinct, Each, SoundInst, SoundQueued, Sound}
+use Rattle.board.specs.Board.{Inst, idsOf, noInst, anyWaiting}
+use Rattle.board.specs.Sound.{Each, SoundInst, SoundQueued, Sound}
 use Rattle.board.proofs.Each.{each-append, each-at}
-use Rattle.store.specs.Layout.{atDepth, atFollowed, atNumber, atBase, atMarks, atQueued, idOf, reasonOf, bidsOf, offersOf, slotOf}
+use Rattle.store.specs.Layout.{atDepth, atFollowed, atNumber, atMarks, atQueued, bidsOf, offersOf}
 use Rattle.store.specs.Meaning.{instAt, queuedAt, boardOf, boardAt, loaded}
 use Rattle.store.specs.Canon.{Formed, Canon}
-use Rattle.store.proofs.Decode.{insts-length, queue-length}
 use Rattle.store.proofs.Marked.{any-board}
 use Rattle.scan.specs.Scan.{spread, roomOf}
 use Rattle.scan.proofs.Headings.{Headed}

@@ -6,14 +6,13 @@ use Prim.Native.Nat.{ℕ, _≤_, _<_}
 use native.Mathlib.Omega.{arith}
 use lib.Dec.{leb, eqb}
 use lib.ListN.{length, getD, take, length-append, List·getD-append}
-use lib.Seq.{length-take-le, getD-take, ext-getD, take-at}
+use lib.Seq.{length-take-le, getD-take, ext-getD}
 use borrow.Author.Tests.{leb-true, le-leb, eqb-true, eq-eqb}
 use Rattle.board.specs.Board.{Board}
 use Rattle.board.specs.Sound.{soundBoard, Sound}
 use Rattle.board.proofs.Tested.{both, three, and-true, tested-sound, sound-tested}
 use Rattle.store.specs.Layout.{storeSize}
-use Rattle.store.specs.Meaning.{boardAt, loaded, written}
-use Rattle.store.specs.Canon.{Formed, Canon}
+use Rattle.store.specs.Meaning.{boardAt, written}
 use Rattle.scan.specs.Scan.{scan}
 use Rattle.sound.specs.Sound.{same, sound}
 use Rattle.sound.specs.Laws.{ScanIsSound, SoundIsWritten, WrittenLength, WrittenReadsBack, WrittenIsSound, SoundOnce, SoundIsCanon, FormedIsSound, CanonIsSound}

@@ -1,11 +1,10 @@
 -- The 7,168 numbers of a board, by position.
-use mathlib.Core.Path.{_≡_, refl, sym, ap, _∙_}
-use mathlib.Core.List.{List, [], _∷_, _++_}
+use mathlib.Core.Path.{_≡_, refl, _∙_}
+use mathlib.Core.List.{List, _∷_, _++_}
 use Prim.Native.Nat.{ℕ, _+_, _*_, _-_, _≤_, _<_}
 use native.Mathlib.Omega.{arith}
 use lib.ListN.{length, getD, length-append}
 use Rattle.book.specs.declared.Entry.{Entry}
-use Rattle.book.specs.Sides.{pad}
 use Rattle.book.specs.Canonical.{sideOf, bookOf}
 use Rattle.book.specs.Rules.{mostPlaces}
 use Rattle.book.proofs.Padding.{length-pad}

@@ -1,5 +1,5 @@
 -- Laws of `rows`: where the numbers of a list's things stand, so many numbers to each, and that the others are zero.
-use mathlib.Core.Path.{_≡_, refl, sym, ap, _∙_}
+use mathlib.Core.Path.{_≡_, refl, sym, _∙_}
 use mathlib.Core.List.{List, [], _∷_, _++_}
 use Prim.Native.Nat.{ℕ, zero, suc, _+_, _*_, _-_, _≤_, _<_}
 use native.Mathlib.Nat.{zero-mul, suc-mul, zero-add, le-of-suc-le-suc}

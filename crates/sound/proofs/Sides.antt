@@ -1,18 +1,17 @@
 -- The tests of a side's 128 numbers as facts, and those as what crate board and crate book say of the side that is read there.
 use mathlib.Core.Path.{_≡_, refl, sym, ap, _∙_}
 use mathlib.Core.Bool.{Bool, true}
-use mathlib.Core.List.{List, [], _∷_}
+use mathlib.Core.List.{List, []}
 use Prim.Native.Nat.{ℕ, zero, suc, _+_, _*_, _-_, _/_, _%_, _≤_, _<_}
 use native.Mathlib.Omega.{arith}
 use lib.Dec.{leb}
-use lib.ListN.{length, getD, take, List·getD-eq-default}
+use lib.ListN.{length, getD, List·getD-eq-default}
 use lib.Seq.{getD-take}
 use borrow.Author.Tests.{leb-true, le-leb}
 use Rattle.price.specs.Held.{heldOf}
 use Rattle.book.specs.declared.Entry.{Entry}
-use Rattle.book.specs.declared.Side.{Side}
 use Rattle.book.specs.Sides.{noEntry}
-use Rattle.book.specs.Canonical.{Kept, heldIn, All}
+use Rattle.book.specs.Canonical.{Kept, heldIn}
 use Rattle.book.proofs.Canon.{length-held}
 use Rattle.book.proofs.Every.{all-at, all-of}
 use Rattle.cells.specs.Cells.{tab, flat, words, entryAt, sideAt}

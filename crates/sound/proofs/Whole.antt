@@ -6,15 +6,15 @@ use native.Mathlib.Nat.{add-zero}
 use native.Mathlib.Omega.{arith}
 use lib.ListN.{length, getD}
 use Rattle.book.specs.declared.Side.{Side}
-use Rattle.book.specs.Canonical.{heldIn, sideOf}
+use Rattle.book.specs.Canonical.{sideOf}
 use Rattle.book.proofs.Canon.{kept-is}
-use Rattle.cells.specs.Cells.{tab, sideAt, sideWords, updateAt, updateWords}
+use Rattle.cells.specs.Cells.{sideAt, sideWords, updateAt, updateWords}
 use Rattle.cells.proofs.Stores.{below-or}
 use Rattle.cells.proofs.Tables.{getD-tab, getD-zeros}
 use Rattle.cells.proofs.Windows.{side-numbers, update-numbers}
 use Rattle.board.specs.Board.{Inst, Queued, Board, noInst}
-use Rattle.store.specs.Layout.{idOf, reasonOf, bidsOf, offersOf, slotOf}
-use Rattle.store.specs.Meaning.{bookAt, instAt, queuedAt, boardOf, boardAt, recordWords, bookWords, slotWords, loaded, written}
+use Rattle.store.specs.Layout.{bidsOf, offersOf, slotOf}
+use Rattle.store.specs.Meaning.{instAt, queuedAt, boardOf, boardAt, recordWords, bookWords, slotWords, loaded, written}
 use Rattle.store.specs.Canon.{Formed}
 use Rattle.store.proofs.Decode.{insts-length, queue-length, at-board}
 use Rattle.sound.proofs.Rows.{before}

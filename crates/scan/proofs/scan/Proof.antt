@@ -1,10 +1,9 @@
 -- `scan` meets its contract: its parts' tests, one after the other.
-use mathlib.Core.Path.{_≡_, sym, _∙_}
-use mathlib.Core.Bool.{true}
+use mathlib.Core.Path.{sym, _∙_}
 use native.Mathlib.Omega.{arith}
 use borrow.Author.Tests.{lt-leb, le-leb, not-true, not-false}
-use Rattle.scan.specs.Scan.{headingScan, scan}
-use Rattle.scan.proofs.Headings.{Headed, headed}
+use Rattle.scan.specs.Scan.{scan}
+use Rattle.scan.proofs.Headings.{headed}
 use borrow.Author.Needs.{needs}
 use Rattle.scan.proofs.scan.Statement.{statement}
 use Rattle.scan.proofs.scan.Tie as tie
