@@ -1,7 +1,7 @@
 -- A walk along a place: what is known at each field, and what each end of the walk tells. Assumes nothing.
 use mathlib.Core.Path.{_≡_, refl, sym, ap, _∙_}
 use mathlib.Core.List.{List, [], _∷_, _++_}
-use mathlib.Core.Bool.{Bool, true, false, not, _&&_, _||_, true≢false}
+use mathlib.Core.Bool.{Bool, true, false, cond, not, _&&_, _||_, true≢false, false≢true}
 use mathlib.Core.Option.{none, some}
 use Prim.Native.Nat.{ℕ, _+_, _≤_, _<_}
 use native.Mathlib.Omega.{arith}
@@ -12,7 +12,7 @@ use Rattle.frame.specs.Fields.{Field, field}
 use Rattle.frame.specs.Places.{part, fieldAt, left}
 use Rattle.frame.specs.declared.Step.{Step}
 use Rattle.frame.proofs.Walk.{On, walk-on, walked, Found, found}
-use Rattle.tags.specs.Tags.{tidy}
+use Rattle.tags.specs.Tags.{tidy, upTo, onward}
 use Rattle.tags.specs.Slots.{slotOf, below, between, noMarks, strays, Holds, splitAt, Chained, Tells}
 use Rattle.tags.specs.declared.Marks.{Marks}
 use Rattle.tags.specs.declared.Place.{Place}
@@ -85,3 +85,27 @@ module _ (s : List ℕ) (start stop named low high : ℕ) where
               tidy = tidy-more (below named) (between low high) (w .passed) f (w .tidy) (fit ∙ ap not h);
               same = w .same ∙ ap (splitFrom stop named low high (w .passed)) (on .cons) ∙ split-more stop named low high (w .passed) (w .tidy) f (left s (to + 1)) other;
             }
+
+-- ---- what a walk's answer says of the place
+-- the rules hold: its marks say what its fields say, and what follows it is known
+pub record Passed (s : List ℕ) (stop named low high : ℕ) (fs : List Field) (r : Place) : Type 0 where
+  pub tidy : tidy (below named) (between low high) (upTo stop fs) ≡ true
+  pub holds : Holds named s (r .marks) (upTo stop fs)
+  pub rest : left s (r .at) ≡ onward stop fs
+  pub chained : Chained s (r .at)
+
+module _ (s : List ℕ) (stop named low high : ℕ) (fs : List Field) (r : Place) where
+  pub was-untidy : Tells named s r (splitAt stop named low high fs) → r .ok ≡ false → tidy (below named) (between low high) (upTo stop fs) ≡ false
+  was-untidy h q = go (tidy (below named) (between low high) (upTo stop fs)) h
+    where
+      go : (z : Bool) → Tells named s r (cond z (some (record { inside = upTo stop fs; rest = onward stop fs })) none) → z ≡ false
+      go true w = absurd (false≢true (sym q ∙ w .ok))
+      go false w = refl
+
+  pub was-tidy : Tells named s r (splitAt stop named low high fs) → r .ok ≡ true → Passed s stop named low high fs r
+  was-tidy h q = go (tidy (below named) (between low high) (upTo stop fs)) refl h
+    where
+      go : (z : Bool) → tidy (below named) (between low high) (upTo stop fs) ≡ z
+          → Tells named s r (cond z (some (record { inside = upTo stop fs; rest = onward stop fs })) none) → Passed s stop named low high fs r
+      go true e w = record { tidy = e; holds = w .holds; rest = w .rest; chained = w .chained }
+      go false e w = absurd (false≢true (sym w ∙ q))

@@ -98,7 +98,14 @@ kept-length us n next more k = ap length (k .items) ∙ padded-length 64 (k .sai
 -- the reading that it makes
 pub kept-answer : (t : Top) (us : List Update) (n : ℕ) (next : Next) (more : ℕ) (k : Kept us n next more)
     → record {
-      verdict = t .verdict; number = t .number; heard = t .heard; id = t .id; last = t .last; loops = t .loops; count = n; updates = us;
+      verdict = t .verdict;
+      number = t .number;
+      heard = t .heard;
+      id = t .id;
+      last = t .last;
+      loops = t .loops;
+      count = n;
+      updates = us;
     } ≡ answered t (some (k .said))
 unfolding answered
 kept-answer t us n next more k = rw (k .size, k .items)
@@ -180,7 +187,10 @@ module _ (s : List ℕ) (start count depth : ℕ) (t : Top) where
       pub lists-skip : (tag ≡ t .first → ⊥) → (k : ℕ) → k ≡ slotOf tag → 21 ≤ k → Lists us n next more good (to + 1)
       lists-skip q k e g =
           record {
-            fair = w .fair; chained = on .good; kept = w .kept; bad = w .bad;
+            fair = w .fair;
+            chained = on .good;
+            kept = w .kept;
+            bad = w .bad;
             same = first ∙ passed-over depth t more next said f (left s (to + 1)) q (named-not tag k e g);
           }
 
@@ -203,7 +213,11 @@ module _ (s : List ℕ) (start count depth : ℕ) (t : Top) where
       lists-enter q z k e b m r =
           let p = found s at step in
           record {
-            fair = w .fair; chained = on .good; kept = kept-less us n next more (w .kept); space = omega (arith, w .kept .room); bad = w .bad;
+            fair = w .fair;
+            chained = on .good;
+            kept = kept-less us n next more (w .kept);
+            space = omega (arith, w .kept .room);
+            bad = w .bad;
             onward = omega arith;
             passed = f ∷ [];
             holds = rw r (held-more 21 s noMarks [] (omega arith) (none-held 21 s (omega arith)) tag k from to e b (λ i. getD-replicate {A = ℕ} 22 k 0 0 (omega arith)) (p .some) (p .high));
@@ -235,7 +249,11 @@ module _ (s : List ℕ) (start count depth : ℕ) (t : Top) where
             let p = found s at step in
             let f = field tag (part from to s) in
             record {
-              fair = w .fair; chained = here .good; kept = w .kept; space = w .space; bad = w .bad;
+              fair = w .fair;
+              chained = here .good;
+              kept = w .kept;
+              space = w .space;
+              bad = w .bad;
               onward = omega (arith, w .onward, p .low, p .some);
               passed = w .passed ++ (f ∷ []);
               holds = held-more 21 s m (w .passed) (omega arith) (w .holds) tag k from to e b (unseen k 21 (t .low) 20 (getD (m .to) k 0) h) (p .some) (p .high);
@@ -260,7 +278,10 @@ module _ (s : List ℕ) (start count depth : ℕ) (t : Top) where
       pub ended-passed : entryNext depth t next (marked s m) ≡ some none → Lists us n next more good at
       ended-passed h =
           record {
-            fair = w .fair; chained = w .chained; kept = w .kept; bad = w .bad;
+            fair = w .fair;
+            chained = w .chained;
+            kept = w .kept;
+            bad = w .bad;
             same = w .same ∙ entry-passed depth t more next (w .kept .said) (w .passed) (left s at) (w .tidy) stop (sym read ∙ h);
           }
 
@@ -269,6 +290,9 @@ module _ (s : List ℕ) (start count depth : ℕ) (t : Top) where
       unfolding kept-more
       ended-said u h next' q =
           rw q (record {
-            fair = w .fair; chained = w .chained; kept = kept-more us n next more (w .kept) u (omega (arith, w .space)) (w .space); bad = w .bad;
+            fair = w .fair;
+            chained = w .chained;
+            kept = kept-more us n next more (w .kept) u (omega (arith, w .space)) (w .space);
+            bad = w .bad;
             same = w .same ∙ entry-said depth t more next (w .kept .said) (w .passed) (left s at) (w .tidy) stop u (sym read ∙ h);
           })

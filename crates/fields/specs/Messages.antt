@@ -30,7 +30,7 @@ unfoldable pub groupOf : ℕ → List ℕ → List Field → Option (List (List 
 groupOf first ours body =
     countAt (lookup body) >>= λ n.
     need (eqb (length (parts first (past 268 body))) n
-      && (tidy namedTags [] (upTo first (past 268 body)) && allTidy namedTags ours (parts first (past 268 body))))
+    && (tidy namedTags [] (upTo first (past 268 body)) && allTidy namedTags ours (parts first (past 268 body))))
     (some (parts first (past 268 body)))
 
 -- All entries, in order.

@@ -20,18 +20,25 @@ use tags::Marks;
 
 // The tag that ends what stands before a group; no field has the tag 0.
 const COUNT_TAG: u64 = 268;
+
 const NO_TAG: u64 = 0;
 
 // The first tag of an entry in X and in W.
 const FIRST_X: u64 = 279;
+
 const FIRST_W: u64 = 269;
 
 // The slots that may stand before 268 in X and in W, and in an entry of X and of W, up to a last one.
 const HEAD: usize = tags::SEQ;
+
 const HEAD_X_END: usize = tags::LAST;
+
 const HEAD_W_END: usize = tags::ACTION;
+
 const ENTRY_X: usize = tags::INSTRUMENT;
+
 const ENTRY_W: usize = tags::SORT;
+
 const ENTRY_END: usize = tags::COUNT;
 
 // 34, 369 and 911 end here.
@@ -130,7 +137,8 @@ fn top_w(s: &[u8], m: Marks) -> Topped
     let Number::Is(last) = digits::ranged(tags::value(s, m, tags::LAST), 10, 0, MOST_NUMBER) else {
         return Topped::No;
     };
-    let Number::Is(loops) = digits::ranged(tags::value(s, m, tags::LOOPS), 10, 1, MOST_NUMBER) else {
+    let Number::Is(loops) = digits::ranged(tags::value(s, m, tags::LOOPS), 10, 1, MOST_NUMBER)
+    else {
         return Topped::No;
     };
     Topped::Is(Top {
@@ -231,7 +239,12 @@ fn listed(s: &[u8], start: usize, count: u64, depth: u64, t: Top) -> Reading
         m.from[k] = from;
         m.to[k] = to;
         while at < end {
-            let Step::Is { tag: g, from: f, to: e } = frame::field(s, at) else {
+            let Step::Is {
+                tag: g,
+                from: f,
+                to: e,
+            } = frame::field(s, at)
+            else {
                 break 'entries;
             };
             if g == first {

@@ -5,7 +5,7 @@ use mathlib.Core.Bool.{Bool, true, false, cond, not, _&&_, _||_}
 use mathlib.Core.Option.{Option, none, some}
 use Prim.Native.Nat.{ℕ, _+_, _-_, _≤_, _<_}
 use native.Mathlib.Omega.{arith}
-use borrow.Author.Tests.{eqb-true, ne-eqb}
+use borrow.Author.Tests.{eqb-true, eq-eqb, ne-eqb}
 use lib.Dec.{eqb}
 use lib.ListN.{length, drop}
 use Rattle.digits.specs.Digits.{rangedOf, wholeOf, digitsOf}
@@ -14,7 +14,7 @@ use Rattle.digits.proofs.Width.{both}
 use Rattle.book.specs.declared.Update.{Update}
 use Rattle.message.specs.Message.{Head, Message, numbered, snapshot, refused, padded, told}
 use Rattle.message.specs.declared.Verdict.{Verdict}
-use Rattle.message.specs.declared.Verdict.the-variants.{Numbered, Snapshot, BadFields}
+use Rattle.message.specs.declared.Verdict.the-variants.{Numbered, Snapshot, BadFrame, BadSum, BadType, BadFields}
 use Rattle.frame.specs.Fields.{Field, fieldsOf}
 use Rattle.frame.specs.Bytes.{fair, allFair}
 use Rattle.frame.specs.Frames.{frameOf}
@@ -38,8 +38,8 @@ use Rattle.fields.proofs.Positions.{bare-refused}
 -- ---- from 268 on
 counted-by : (depth : ℕ) (t : Top) (n : Number) (gs : List Field)
     → (number n >>= λ k.
-      need (eqb (length (parts (t .first) gs)) k && (tidy namedTags [] (upTo (t .first) gs) && allTidy namedTags (between (t .low) 20) (parts (t .first) gs)))
-      (some (parts (t .first) gs)))
+    need (eqb (length (parts (t .first) gs)) k && (tidy namedTags [] (upTo (t .first) gs) && allTidy namedTags (between (t .low) 20) (parts (t .first) gs)))
+    (some (parts (t .first) gs)))
     >>= (λ es. each (entryIn depth t) es >>= λ us. need (ordered t firsts us) (some us))
     ≡ number n >>= λ k. grouped depth t k gs
 unfolding grouped
@@ -211,14 +211,28 @@ module _ (depth : ℕ) (fs : List Field) where
 abbrev w-top : Head → Top
 w-top h =
     record {
-      verdict = Snapshot; first = 269; low = 12; number = h .number; heard = h .heard; id = h .id; last = h .last; loops = h .loops;
+      verdict = Snapshot;
+      first = 269;
+      low = 12;
+      number = h .number;
+      heard = h .heard;
+      id = h .id;
+      last = h .last;
+      loops = h .loops;
     }
 
 pub record TopW (v : Values) (t : Top) : Type 0 where
   pub head : Head
   pub read : headOf v ≡ some head
   pub same : t ≡ record {
-    verdict = Snapshot; first = 269; low = 12; number = head .number; heard = head .heard; id = head .id; last = head .last; loops = head .loops;
+    verdict = Snapshot;
+    first = 269;
+    low = 12;
+    number = head .number;
+    heard = head .heard;
+    id = head .id;
+    last = head .last;
+    loops = head .loops;
   }
 
 -- the two ways to read it
@@ -375,6 +389,20 @@ chain-fair s h = go (fieldsOf s) refl h
     go none e h = refl
     go (some fs) e h = fields-only s fs e .fair
 
+-- ---- by the type
+module _ (depth kind : ℕ) (fs : List Field) where
+  pub type-x : kind ≡ 88 → told (orBadFields (typedAs depth kind fs)) ≡ told (orBadFields (changesOf depth fs))
+  unfolding typedAs
+  type-x q = rw (eq-eqb kind 88 q)
+
+  pub type-w : (kind ≡ 88 → ⊥) → kind ≡ 87 → told (orBadFields (typedAs depth kind fs)) ≡ told (orBadFields (snapshotOf depth fs))
+  unfolding typedAs
+  type-w n q = rw (ne-eqb kind 88 n, eq-eqb kind 87 q)
+
+  pub type-other : (kind ≡ 88 → ⊥) → (kind ≡ 87 → ⊥) → told (orBadFields (typedAs depth kind fs)) ≡ told (orBadFields (otherOf fs))
+  unfolding typedAs
+  type-other n m = rw (ne-eqb kind 88 n, ne-eqb kind 87 m)
+
 -- ---- the whole message
 module _ (depth : ℕ) (s : List ℕ) {kind from : ℕ} (e : frameOf s ≡ Framed.Is kind from) where
   pub body-chained : Chained (part from (length s - 7) s) 0
@@ -384,5 +412,16 @@ module _ (depth : ℕ) (s : List ℕ) {kind from : ℕ} (e : frameOf s ≡ Frame
   unfolding messageIn
   body-is = rw (e, framing s e .body)
 
-pub no-message : (depth : ℕ) (s : List ℕ) (v : Verdict) → messageIn depth s ≡ refused v → bareOf v 0 0 ≡ told (messageIn depth s)
-no-message depth s v q = rw q (bare-refused v)
+-- a frame that is refused
+module _ (depth : ℕ) (s : List ℕ) where
+  pub bad-frame : frameOf s ≡ Framed.BadFrame → bareOf BadFrame 0 0 ≡ told (messageIn depth s)
+  unfolding messageIn
+  bad-frame e = rw e (bare-refused BadFrame)
+
+  pub bad-sum : frameOf s ≡ Framed.BadSum → bareOf BadSum 0 0 ≡ told (messageIn depth s)
+  unfolding messageIn
+  bad-sum e = rw e (bare-refused BadSum)
+
+  pub bad-type : frameOf s ≡ Framed.BadType → bareOf BadType 0 0 ≡ told (messageIn depth s)
+  unfolding messageIn
+  bad-type e = rw e (bare-refused BadType)

@@ -65,7 +65,7 @@ ordered t next us = eqb (t .first) 279 || running next us
 unfoldable pub grouped : ℕ → Top → ℕ → List Field → Option (List Update)
 grouped depth t n fs =
     need (eqb (length (parts (t .first) fs)) n
-      && (tidy namedTags [] (upTo (t .first) fs) && allTidy namedTags (between (t .low) 20) (parts (t .first) fs)))
+    && (tidy namedTags [] (upTo (t .first) fs) && allTidy namedTags (between (t .low) 20) (parts (t .first) fs)))
     (each (entryIn depth t) (parts (t .first) fs) >>= λ us. need (ordered t firsts us) (some us))
 
 -- The first tag of an entry may stand in it.
@@ -82,6 +82,12 @@ unfoldable pub answered : Top → Option (List Update) → Reading
 answered t none = told (refused BadFields)
 answered t (some us) =
     record {
-      verdict = t .verdict; number = t .number; heard = t .heard; id = t .id; last = t .last; loops = t .loops; count = length us;
+      verdict = t .verdict;
+      number = t .number;
+      heard = t .heard;
+      id = t .id;
+      last = t .last;
+      loops = t .loops;
+      count = length us;
       updates = padded 64 us;
     }

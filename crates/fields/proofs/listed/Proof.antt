@@ -54,10 +54,10 @@ ended c =
     (λ y. cases y
     (λ x. at-refusal _ _ _ (x .21 ∙ w .bad) (strayed _ _ _ _ _ _ _ _ _ _ _ _ _ (x .9 .inv) _ _ _ (x .10 .taken) (sym (x .11 .ensures) ∙ x .13 .given .1) (x .15 .left) _ (x .16 .ensures .0) (sym (x .18 .ensures) ∙ x .19 .taken)))
     (λ x. at-refusal _ _ _ (x .15 ∙ w .bad) (ended-bad _ _ _ _ _ _ _ _ _ _ _ _ _ (x .9 .inv)
-      (cases (x .10 .came)
-      (λ z. stops-end _ _ _ _ _ _ _ _ _ _ _ _ _ (x .9 .inv) (z .left))
-      (λ z. stops-first _ _ _ _ _ _ _ _ _ _ _ _ _ (x .9 .inv) _ _ _ (z .0 .taken) (sym (z .1 .ensures) ∙ z .3 .given .1) (z .5 .taken)))
-      (said-bad _ (sym (x .11 .ensures) ∙ x .13 .given .1)))))))))
+    (cases (x .10 .came)
+    (λ z. stops-end _ _ _ _ _ _ _ _ _ _ _ _ _ (x .9 .inv) (z .left))
+    (λ z. stops-first _ _ _ _ _ _ _ _ _ _ _ _ _ (x .9 .inv) _ _ _ (z .0 .taken) (sym (z .1 .ensures) ∙ z .3 .given .1) (z .5 .taken)))
+    (said-bad _ (sym (x .11 .ensures) ∙ x .13 .given .1)))))))))
 
 no-update-requires : tie.Need-no-update-requires Inv-loop μ-loop Inv-entries μ-entries
 no-update-requires c κs = search needs
