@@ -64,7 +64,7 @@ pub fn feed_read(store: &mut [u64], h: Heading, r: Reading) -> Fed
 {
     let us = r.updates;
     let count = r.count;
-    let mut run = [0u64; 576];
+    let mut run = [0u64; RUN];
     spread(store, h, us, count, &mut run);
     let v = r.verdict;
     match v {

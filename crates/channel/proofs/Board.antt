@@ -1,14 +1,18 @@
 -- What a message leaves in the store is the board after it, and the store is canonical again.
 use mathlib.Core.Path.{_≡_, refl, sym, ap, _∙_}
+use mathlib.Core.List.{List}
 use Prim.Native.Nat.{ℕ}
+use Rattle.book.specs.declared.Update.{Update}
 use Rattle.book.specs.Rules.{Lists}
-use Rattle.message.specs.Message.{Message, numbered, snapshot, refused}
+use Rattle.message.specs.Message.{Message, Head, numbered, snapshot, refused}
 use Rattle.board.specs.Snapshot.{snap}
 use Rattle.board.specs.Feed.{feed}
 use Rattle.store.specs.Meaning.{State, boardIn}
 use Rattle.store.specs.Canon.{Formed, Canon}
 use Rattle.store.specs.Answers.{FedS, fed, meant}
+use Rattle.count.specs.Counts.{numberS}
 use Rattle.count.proofs.Board.{number-board, number-canon}
+use Rattle.replay.specs.Replays.{snapS}
 use Rattle.replay.proofs.Board.{snap-board, snap-canon}
 use Rattle.channel.specs.Feeds.{aimedAt, feedS, Feeds}
 use Rattle.channel.proofs.Aiming.{shown-aimed}
@@ -31,3 +35,14 @@ pub feeds : {m n : Message} {s : State} {a : ℕ} {t : State} → m ≡ n → Ca
 feeds {m} {n} {s} w k h =
     let e = h ∙ ap (λ (x : Message). feedS x s) (sym w) in
     record { leaves = e; means = ap meant e ∙ feed-board m s (k .formed); canon = rw (ap (λ (o : FedS). o .state) e) (feed-canon m s k) }
+
+-- a number, and a snapshot, with the entries vs that the run holds
+pub number-feeds : {m : Message} {n heard : ℕ} {us vs : List Update} {s : State} {a : ℕ} {t : State} → m ≡ numbered n heard us → Canon s
+    → vs ≡ aimedAt s us → fed a t ≡ numberS n heard vs s → Feeds m s a t
+unfolding feedS
+number-feeds {n = n} {heard = heard} {s = s} w k e h = feeds w k (h ∙ ap (λ (l : List Update). numberS n heard l s) e)
+
+pub snapshot-feeds : {m : Message} {h : Head} {us vs : List Update} {s : State} {a : ℕ} {t : State} → m ≡ snapshot h us → Canon s
+    → vs ≡ aimedAt s us → fed a t ≡ snapS (h .id) (h .last) vs s → Feeds m s a t
+unfolding feedS
+snapshot-feeds {h = h} {s = s} w k e g = feeds w k (g ∙ ap (λ (l : List Update). snapS (h .id) (h .last) l s) e)

@@ -34,6 +34,8 @@ said r = saidBy (r .verdict) r
 abbrev pub aimedAt : State → List Update → List Update
 aimedAt s us = map (aimed (boardIn s .insts)) us
 
+-- The answer, and the heading and the store that are left: a number is counted or old, a snapshot is taken or refused, and a
+-- message that is not read leaves all as it was.
 unfoldable pub feedS : Message → State → FedS
 feedS (numbered n heard us) s = numberS n heard (aimedAt s us) s
 feedS (snapshot h us) s = snapS (h .id) (h .last) (aimedAt s us) s

@@ -1,13 +1,8 @@
 -- `feed_read` meets its contract: each verdict has its message.
-use Rattle.channel.proofs.Board.{feeds}
+use Rattle.channel.proofs.Board.{feeds, number-feeds, snapshot-feeds}
 use Rattle.channel.specs.Feeds.{saidBy, feedS}
-use Rattle.replay.specs.Replays.{snapS}
-use Rattle.count.specs.Counts.{numberS}
-use Rattle.store.specs.Meaning.{st}
 use Rattle.message.specs.declared.Verdict.{Verdict}
-use Rattle.book.specs.declared.Update.{Update}
-use mathlib.Core.List.{List}
-use mathlib.Core.Path.{refl, ap, _∙_}
+use mathlib.Core.Path.{refl, ap}
 use borrow.Author.Needs.{needs}
 use Rattle.channel.proofs.feed_read.Statement.{statement}
 use Rattle.channel.proofs.feed_read.Tie as tie
@@ -52,23 +47,19 @@ same-length : tie.Need-same-length
 same-length c = search needs
 
 returns : tie.Need-returns
-unfolding feedS
 returns c =
-    let a = c .before .before .before .before .before .before .before .before .before .before .before .before .before .args in
-    let s = st (a .h) (a .store .now) in
-    feeds (ap (λ (v : Verdict). saidBy v (a .r)) (c .before .before .before .before .before .enum-told .given .1)) (c .before .before .before .before .before .before .before .before .before .before .before .before .before .pre .0)
-    (c .before .before .number .ensures ∙ ap (λ (us : List Update). numberS (a .r .number) (a .r .heard) us s) (c .before .before .before .before .before .before .before .before .spread .ensures))
+    let top = c .before .before .before .before .before .before .before .before .before .before .before .before .before in
+    number-feeds (ap (λ (v : Verdict). saidBy v (top .args .r)) (c .before .before .before .before .before .enum-told .given .1)) (top .pre .0)
+    (c .before .before .before .before .before .before .before .before .spread .ensures) (c .before .before .number .ensures)
 
 same-length-2 : tie.Need-same-length-2
 same-length-2 c = search needs
 
 returns-2 : tie.Need-returns-2
-unfolding feedS
 returns-2 c =
-    let a = c .before .before .before .before .before .before .before .before .before .before .before .before .before .args in
-    let s = st (a .h) (a .store .now) in
-    feeds (ap (λ (v : Verdict). saidBy v (a .r)) (c .before .before .before .before .before .enum-told2 .given .1)) (c .before .before .before .before .before .before .before .before .before .before .before .before .before .pre .0)
-    (c .before .before .snapshot .ensures ∙ ap (λ (us : List Update). snapS (a .r .id) (a .r .last) us s) (c .before .before .before .before .before .before .before .before .spread .ensures))
+    let top = c .before .before .before .before .before .before .before .before .before .before .before .before .before in
+    snapshot-feeds (ap (λ (v : Verdict). saidBy v (top .args .r)) (c .before .before .before .before .before .enum-told2 .given .1)) (top .pre .0)
+    (c .before .before .before .before .before .before .before .before .spread .ensures) (c .before .before .snapshot .ensures)
 
 same-length-3 : tie.Need-same-length-3
 same-length-3 c = search needs

@@ -1,3 +1,4 @@
 pub mod Aiming
 pub mod Board
-pub mod Told
+pub mod Beyond
+pub mod Laws
