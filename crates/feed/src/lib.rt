@@ -1,0 +1,26 @@
+// One message on the store (document 01): 17 first, then 11 to 14, then the rest; nothing is written before the last
+// refusal is past.
+ghost use Rattle.feed.specs.Feeding.{Fed};
+
+// The store is unsound.
+const UNSOUND: u64 = 17;
+
+// The Waiting count stands above the answer.
+const ABOVE: u64 = 256;
+
+// Reads the bytes of a message and gives the message to the board in the store. The answer is document 01's number and 256
+// times how many instruments wait afterwards.
+pub fn feed(store: &mut [u64], message: &[u8]) -> u64
+    ensures { λ r. ⌜ Fed (now (message .entry)) (now (store .entry)) r (now (store .exit)) ⌝ }
+{
+    if !sound::sound(store) {
+        return UNSOUND;
+    }
+    let h = store::load_heading(store);
+    let r = fields::read(message, h.depth);
+    let f = channel::feed_read(store, h, r);
+    let g = f.head;
+    let n = store::waiting(store, g);
+    store::save_heading(store, g);
+    f.answer + ABOVE * (n as u64)
+}

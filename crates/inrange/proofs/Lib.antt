@@ -1,0 +1,3 @@
+pub mod Okay
+pub mod Entries
+pub mod Read
