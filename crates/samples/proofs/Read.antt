@@ -1,0 +1,65 @@
+-- What the messages read as, computed from the definitions. Assumes nothing.
+use mathlib.Core.Path.{_≡_, refl}
+use mathlib.Core.List.{List, [], _∷_}
+use Prim.Native.Nat.{ℕ, _+_, _*_, _%_}
+use lib.IntN.{pos}
+use lib.ListN.{length}
+use Rattle.digits.specs.Digits.{digitsOf, wholeOf, rangedOf}
+use Rattle.text.specs.Text.{fixed, widthTo, widthOf, decimal}
+use Rattle.price.specs.Price.{fractionOf, amountOf, priceOf}
+use Rattle.calendar.specs.Calendar.{leap, months, daysIn, daysTo, yearDays, daysBefore, isDate, dayOf}
+use Rattle.moment.specs.Moments.{dateOf, twoOf, minutesOf, clockOf, timeOf, momentOf}
+use Rattle.orderid.specs.OrderIds.{isId, idOf}
+use Rattle.frame.specs.Fields.{fieldOf, cut, fieldsOf}
+use Rattle.frame.specs.Bytes.{fieldBytes, bytesOf}
+use Rattle.frame.specs.Frames.{frameOf, bodyOf}
+use Rattle.tags.specs.Tags.{has, stands, tidy, upTo, past, parts, allTidy, lookup}
+use Rattle.entries.specs.Values.{bvmf, instrumentOf, sortOf, byOf, momentIn}
+use Rattle.entries.specs.Entries.{valuesOf, bookEntry, emptyBook, entryInX, shownEntry, entryInW}
+use Rattle.message.specs.Message.{Message, numbered, snapshot, refused}
+use Rattle.message.specs.declared.Verdict.the-variants.{BadFields}
+use Rattle.fields.specs.Messages.{otherOf, groupOf, each, changesOf, headOf, running, snapshotOf, orBadFields, typedAs, messageIn}
+use Rattle.samples.specs.Messages.{empty-book, point-alone, eight-decimals, first, second, third, at-1, at-2, at-4}
+use Rattle.samples.specs.Says.{bid-1, bid-2, first-says, second-says, third-says, shows}
+
+-- the message has 110 bytes and says an empty book
+pub sized : length empty-book ≡ 110
+sized = refl
+
+pub says-empty : messageIn 0 empty-book ≡ snapshot (record { number = 1; heard = 64968180540000; id = 7; last = 0; loops = 1 }) []
+unfolding messageIn typedAs orBadFields snapshotOf headOf groupOf each running frameOf bodyOf fieldsOf cut fieldOf rangedOf wholeOf digitsOf bytesOf fieldBytes decimal widthOf widthTo fixed tidy upTo past parts allTidy lookup has stands momentOf dateOf timeOf clockOf minutesOf twoOf isDate dayOf leap months daysIn daysTo yearDays daysBefore instrumentOf bvmf
+says-empty = refl
+
+-- M4
+pub m4-point : messageIn 0 point-alone ≡ refused BadFields
+unfolding messageIn typedAs orBadFields changesOf groupOf each frameOf bodyOf fieldsOf cut fieldOf rangedOf wholeOf digitsOf bytesOf fieldBytes decimal widthOf widthTo fixed tidy upTo past parts allTidy lookup has stands momentOf dateOf timeOf clockOf minutesOf twoOf isDate dayOf leap months daysIn daysTo yearDays daysBefore instrumentOf bvmf entryInX bookEntry valuesOf sortOf priceOf amountOf fractionOf
+m4-point = refl
+
+pub m4-eight : messageIn 0 eight-decimals ≡ refused BadFields
+unfolding messageIn typedAs orBadFields changesOf groupOf each frameOf bodyOf fieldsOf cut fieldOf rangedOf wholeOf digitsOf bytesOf fieldBytes decimal widthOf widthTo fixed tidy upTo past parts allTidy lookup has stands momentOf dateOf timeOf clockOf minutesOf twoOf isDate dayOf leap months daysIn daysTo yearDays daysBefore instrumentOf bvmf entryInX bookEntry valuesOf sortOf priceOf amountOf fractionOf
+m4-eight = refl
+
+-- ---- M11 and M12
+pub says-first : messageIn 0 first ≡ first-says
+unfolding messageIn typedAs orBadFields changesOf snapshotOf headOf groupOf each running frameOf bodyOf fieldsOf cut fieldOf rangedOf wholeOf digitsOf bytesOf fieldBytes decimal widthOf widthTo fixed tidy upTo past parts allTidy lookup has stands momentOf dateOf timeOf clockOf minutesOf twoOf isDate dayOf leap months daysIn daysTo yearDays daysBefore instrumentOf bvmf entryInX bookEntry entryInW shownEntry valuesOf sortOf priceOf amountOf fractionOf byOf idOf isId momentIn
+says-first = refl
+
+pub says-second : messageIn 0 second ≡ second-says
+unfolding messageIn typedAs orBadFields changesOf snapshotOf headOf groupOf each running frameOf bodyOf fieldsOf cut fieldOf rangedOf wholeOf digitsOf bytesOf fieldBytes decimal widthOf widthTo fixed tidy upTo past parts allTidy lookup has stands momentOf dateOf timeOf clockOf minutesOf twoOf isDate dayOf leap months daysIn daysTo yearDays daysBefore instrumentOf bvmf entryInX bookEntry entryInW shownEntry valuesOf sortOf priceOf amountOf fractionOf byOf idOf isId momentIn
+says-second = refl
+
+pub says-third : messageIn 0 third ≡ third-says
+unfolding messageIn typedAs orBadFields changesOf snapshotOf headOf groupOf each running frameOf bodyOf fieldsOf cut fieldOf rangedOf wholeOf digitsOf bytesOf fieldBytes decimal widthOf widthTo fixed tidy upTo past parts allTidy lookup has stands momentOf dateOf timeOf clockOf minutesOf twoOf isDate dayOf leap months daysIn daysTo yearDays daysBefore instrumentOf bvmf entryInX bookEntry entryInW shownEntry valuesOf sortOf priceOf amountOf fractionOf byOf idOf isId momentIn
+says-third = refl
+
+pub says-at-1 : messageIn 0 at-1 ≡ shows 1 bid-1
+unfolding messageIn typedAs orBadFields changesOf snapshotOf headOf groupOf each running frameOf bodyOf fieldsOf cut fieldOf rangedOf wholeOf digitsOf bytesOf fieldBytes decimal widthOf widthTo fixed tidy upTo past parts allTidy lookup has stands momentOf dateOf timeOf clockOf minutesOf twoOf isDate dayOf leap months daysIn daysTo yearDays daysBefore instrumentOf bvmf entryInX bookEntry entryInW shownEntry valuesOf sortOf priceOf amountOf fractionOf byOf idOf isId momentIn
+says-at-1 = refl
+
+pub says-at-4 : messageIn 0 at-4 ≡ shows 4 bid-2
+unfolding messageIn typedAs orBadFields changesOf snapshotOf headOf groupOf each running frameOf bodyOf fieldsOf cut fieldOf rangedOf wholeOf digitsOf bytesOf fieldBytes decimal widthOf widthTo fixed tidy upTo past parts allTidy lookup has stands momentOf dateOf timeOf clockOf minutesOf twoOf isDate dayOf leap months daysIn daysTo yearDays daysBefore instrumentOf bvmf entryInX bookEntry entryInW shownEntry valuesOf sortOf priceOf amountOf fractionOf byOf idOf isId momentIn
+says-at-4 = refl
+
+pub says-at-2 : messageIn 0 at-2 ≡ shows 2 bid-2
+unfolding messageIn typedAs orBadFields changesOf snapshotOf headOf groupOf each running frameOf bodyOf fieldsOf cut fieldOf rangedOf wholeOf digitsOf bytesOf fieldBytes decimal widthOf widthTo fixed tidy upTo past parts allTidy lookup has stands momentOf dateOf timeOf clockOf minutesOf twoOf isDate dayOf leap months daysIn daysTo yearDays daysBefore instrumentOf bvmf entryInX bookEntry entryInW shownEntry valuesOf sortOf priceOf amountOf fractionOf byOf idOf isId momentIn
+says-at-2 = refl

@@ -1,0 +1,31 @@
+-- What the messages say.
+use mathlib.Core.List.{List, [], _∷_}
+use Prim.Native.Nat.{ℕ}
+use lib.IntN.{pos}
+use Rattle.book.specs.declared.Entry.{Entry}
+use Rattle.book.specs.declared.Update.{Update}
+use Rattle.message.specs.Message.{Head, Message, numbered, snapshot}
+
+-- The bid of message 1 (24.01 for 5), the bid that message 2 changes it to (24.02), and the offer of message 3 (24.05 for 7).
+abbrev pub bid-1 : Entry
+bid-1 = record { price = pos 240100000; size = 5; by = 3119; more = 0; moment = 64968180540000 }
+
+abbrev pub bid-2 : Entry
+bid-2 = record { price = pos 240200000; size = 5; by = 3119; more = 0; moment = 64968180541000 }
+
+abbrev pub offer-3 : Entry
+offer-3 = record { price = pos 240500000; size = 7; by = 3214; more = 0; moment = 64968180542000 }
+
+-- Message 1 makes the bid, message 2 changes it, message 3 makes the offer.
+abbrev pub first-says : Message
+first-says = numbered 1 64968180540000 (record { who = 7; what = 0; action = 0; place = 1; entry = bid-1 } ∷ [])
+
+abbrev pub second-says : Message
+second-says = numbered 2 64968180541000 (record { who = 7; what = 0; action = 1; place = 1; entry = bid-2 } ∷ [])
+
+abbrev pub third-says : Message
+third-says = numbered 3 64968180542000 (record { who = 7; what = 1; action = 0; place = 1; entry = offer-3 } ∷ [])
+
+-- A snapshot of 7 after message S with one bid.
+abbrev pub shows : ℕ → Entry → Message
+shows S e = snapshot (record { number = 1; heard = 64968180540000; id = 7; last = S; loops = 1 }) (record { who = 7; what = 0; action = 0; place = 1; entry = e } ∷ [])
