@@ -1,0 +1,93 @@
+-- The hut of specs/Hut.antt recovers: its messages are read, and the calls computed on its board. Assumes nothing.
+use mathlib.Core.Path.{_≡_, refl, sym, ap, _∙_}
+use mathlib.Core.Bool.{false≢true}
+use mathlib.Core.List.{List, [], _∷_, map}
+use Prim.Native.Nat.{ℕ, zero, suc}
+use native.Mathlib.Omega.{arith}
+use Rattle.book.specs.Rules.{Lists, applied, afterAction, afterNew, afterChange}
+use Rattle.message.specs.Message.{Message}
+use Rattle.board.specs.Board.{Board, opened, anyWaiting, look}
+use Rattle.board.specs.Count.{joining, hit, give, gives, count, number}
+use Rattle.board.specs.Snapshot.{entriesOf, run, after, take, snap}
+use Rattle.board.specs.Feed.{feed}
+use Rattle.board.specs.Calls.{Call, fed, aside, calls, Throughout, inst, Live, mine}
+use Rattle.board.specs.Demand.{NumberedFromOne, bookAt, NeverBreaks, Right}
+use Rattle.store.specs.Meaning.{boardAt}
+use Rattle.opening.specs.Opening.{openStore}
+use Rattle.samples.specs.Says.{bid-1, bid-2, offer-3, first-says, second-says, third-says, shows}
+use Rattle.samples.proofs.Read.{says-first, says-second, says-third, says-at-1, says-at-2, says-at-4}
+use Rattle.promises.specs.Acts.{Act, lefts, Along}
+use Rattle.promises.specs.Recovery.{readIn, Supposed}
+use Rattle.promises.specs.Hut.{stream, received, ours, Recovered, HutRecovers}
+use Rattle.promises.proofs.Recovery.{callOf, back, ends, starts, right-back}
+
+-- what the stream says, and the calls
+abbrev said : List Message
+said = first-says ∷ second-says ∷ third-says ∷ []
+
+stream-said : readIn 0 stream ≡ said
+unfolding stream
+stream-said = rw (says-first, says-second, says-third)
+
+abbrev made : List Call
+made =
+    fed first-says ∷ fed third-says ∷ fed second-says ∷ fed (shows 1 bid-1) ∷ aside 0 ∷ fed (shows 4 bid-2) ∷ fed (shows 2 bid-2) ∷ []
+
+calls-made : map (callOf 0) received ≡ made
+unfolding received
+calls-made = rw (says-first, says-second, says-third, says-at-1, says-at-2, says-at-4)
+
+-- ---- on messages and boards
+numbers : NumberedFromOne said
+numbers zero h = (_, _, refl)
+numbers (suc zero) h = (_, _, refl)
+numbers (suc (suc zero)) h = (_, _, refl)
+numbers (suc (suc (suc k))) h = absurd (omega arith)
+
+never : NeverBreaks said 7
+unfolding bookAt mine run applied afterAction afterNew afterChange
+never zero h = (_, refl)
+never (suc zero) h = (_, refl)
+never (suc (suc zero)) h = (_, refl)
+never (suc (suc (suc zero))) h = (_, refl)
+never (suc (suc (suc (suc k)))) h = absurd (omega arith)
+
+right : Throughout (Right said 7) made (opened 0 ours)
+unfolding bookAt mine run applied afterAction afterNew afterChange anyWaiting look joining hit give gives count number entriesOf after take snap feed
+right = (
+  (λ _. (0, omega arith, refl)),
+  (
+    (λ _. (2, omega arith, refl)),
+    ((λ e. absurd (false≢true e)), ((λ e. absurd (omega arith)), (tt, ((λ e. absurd (omega arith)), ((λ _ _. refl), tt))))),
+  ),
+)
+
+abbrev end : Board
+end = calls made (opened 0 ours)
+
+live : Live 7 end
+unfolding applied afterAction afterNew afterChange anyWaiting look joining hit give gives count number entriesOf run after take snap feed
+live = refl
+
+last : end .H ≡ 3
+unfolding applied afterAction afterNew afterChange anyWaiting look joining hit give gives count number entriesOf run after take snap feed
+last = refl
+
+book : inst 7 end .book ≡ record { bids = bid-2 ∷ []; offers = offer-3 ∷ [] }
+unfolding applied afterAction afterNew afterChange anyWaiting look joining hit give gives count number entriesOf run after take snap feed
+book = refl
+
+-- ---- on bytes and stores
+pub hut-recovers : HutRecovers
+hut-recovers xs e =
+    let h = starts 0 ours xs e in
+    let s = openStore 0 ours xs in
+    let q : boardAt (lefts received s) ≡ end = ends 0 received s (opened 0 ours) h ∙ ap (λ (cs : List Call). calls cs (opened 0 ours)) calls-made in
+    record {
+      numbers = rw stream-said numbers;
+      never = rw stream-said never;
+      right = back 0 (Supposed 0 stream 7) (Right (readIn 0 stream) 7) (right-back 0 stream 7) received s (opened 0 ours) h (rw (stream-said, calls-made) right);
+      live = rw q live;
+      last = rw q last;
+      book = rw q book;
+    }

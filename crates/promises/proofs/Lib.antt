@@ -1,0 +1,3 @@
+pub mod Recovery
+pub mod Hut
+pub mod Marked

@@ -1,0 +1,163 @@
+-- The marked cases, from what the crates show. Assumes nothing.
+use mathlib.Core.Path.{_≡_, refl, sym, ap, _∙_}
+use mathlib.Core.List.{List, [], _∷_}
+use Prim.Native.Nat.{ℕ}
+use native.Mathlib.Omega.{arith}
+use lib.ListN.{length}
+use Rattle.price.proofs.Cases as price
+use Rattle.moment.proofs.Cases as moment
+use Rattle.frame.proofs.Marked.{sums-to-29}
+use Rattle.book.specs.Rules.{Outcome, leaves, breach, applied, afterAction, afterNew, afterChange, afterThru, afterFrom}
+use Rattle.book.specs.declared.Entry.{Entry}
+use Rattle.message.specs.Message.{Message}
+use Rattle.board.specs.Board.{Board, Out, opened, anyWaiting, look}
+use Rattle.board.specs.Count.{joining, hit, give, gives, count, number}
+use Rattle.board.specs.Snapshot.{entriesOf, run, after, take, snap}
+use Rattle.board.specs.Feed.{feed}
+use Rattle.board.specs.Calls.{inst}
+use Rattle.quote.specs.Quotes.{quoteNumber}
+use Rattle.quote.specs.declared.Quoted.{Quoted}
+use Rattle.quote.proofs.Cases as quote
+use Rattle.fields.specs.Messages.{messageIn}
+use Rattle.feed.specs.Feeding.{fed}
+use Rattle.samples.specs.Messages.{first, second, third, at-1, at-2, at-4}
+use Rattle.samples.specs.Says.{bid-1, bid-2, offer-3, first-says, second-says, third-says, shows}
+use Rattle.samples.proofs.Read as read
+use Rattle.promises.specs.Marked.{zero, one, two, three, MarkedCases}
+
+-- ---- M6 to M10 on a side of the list
+m6 : (a b c x : Entry) → afterNew (a ∷ b ∷ c ∷ []) 2 x ≡ leaves (a ∷ x ∷ b ∷ c ∷ [])
+unfolding afterNew
+m6 a b c x = refl
+
+m7 : (a b c : Entry) → afterThru (a ∷ b ∷ c ∷ []) 2 ≡ leaves (c ∷ [])
+unfolding afterThru
+m7 a b c = refl
+
+m8 : (a b c : Entry) → afterFrom (a ∷ b ∷ c ∷ []) 2 ≡ leaves (a ∷ [])
+unfolding afterFrom
+m8 a b c = refl
+
+m9 : (a b c x : Entry) → afterNew (a ∷ b ∷ c ∷ []) 5 x ≡ breach 1
+unfolding afterNew
+m9 a b c x = refl
+
+m10 : (l : List Entry) (x : Entry) → length l ≡ 20 → afterNew l 21 x ≡ breach 2
+unfolding afterNew
+m10 l x h = rw h
+
+m10-past : (l : List Entry) (x : Entry) → length l ≡ 20 → afterNew l 22 x ≡ breach 1
+unfolding afterNew
+m10-past l x h = rw h
+
+-- ---- M11 and M12: the boards that the messages leave
+abbrev after-1 : Out
+after-1 = feed first-says zero
+
+abbrev after-3 : Out
+after-3 = feed third-says (after-1 .board)
+
+abbrev after-2 : Out
+after-2 = feed second-says (after-3 .board)
+
+fed-as : (bytes : List ℕ) (m : Message) (b c : Board) → b ≡ c → c .depth ≡ 0 → messageIn 0 bytes ≡ m → fed bytes b ≡ feed m c
+unfolding fed
+fed-as bytes m b c q k h = rw (q, k, h)
+
+board-of : {o p : Out} → o ≡ p → o .board ≡ p .board
+board-of q = ap (λ (x : Out). x .board) q
+
+first-fed : fed first zero ≡ after-1
+first-fed = fed-as first first-says zero zero refl refl read.says-first
+
+-- the depth kind stays 0
+kind-1 : after-1 .board .depth ≡ 0
+unfolding applied afterAction afterNew afterChange anyWaiting look joining hit give gives count number feed
+kind-1 = refl
+
+kind-3 : after-3 .board .depth ≡ 0
+unfolding applied afterAction afterNew afterChange anyWaiting look joining hit give gives count number feed
+kind-3 = refl
+
+kind-2 : after-2 .board .depth ≡ 0
+unfolding applied afterAction afterNew afterChange anyWaiting look joining hit give gives count number feed
+kind-2 = refl
+
+third-fed : fed third one ≡ after-3
+third-fed = fed-as third third-says one (after-1 .board) (board-of first-fed) kind-1 read.says-third
+
+second-fed : fed second two ≡ after-2
+second-fed = fed-as second second-says two (after-3 .board) (board-of third-fed) kind-3 read.says-second
+
+m11-first : fed first zero .answer ≡ 0
+unfolding applied afterAction afterNew afterChange anyWaiting look joining hit give gives count number feed
+m11-first = ap (λ (o : Out). o .answer) first-fed
+
+m11-third : fed third one .answer ≡ 1
+unfolding applied afterAction afterNew afterChange anyWaiting look joining hit give gives count number feed
+m11-third = ap (λ (o : Out). o .answer) third-fed
+
+m11-second : fed second two .answer ≡ 2
+unfolding applied afterAction afterNew afterChange anyWaiting look joining hit give gives count number feed
+m11-second = ap (λ (o : Out). o .answer) second-fed
+
+m11-base : three .B ≡ 2
+unfolding applied afterAction afterNew afterChange anyWaiting look joining hit give gives count number feed
+m11-base = ap (λ (b : Board). b .B) (board-of second-fed)
+
+m11-last : three .H ≡ 3
+unfolding applied afterAction afterNew afterChange anyWaiting look joining hit give gives count number feed
+m11-last = ap (λ (b : Board). b .H) (board-of second-fed)
+
+shown-fed : (bytes : List ℕ) (m : Message) → messageIn 0 bytes ≡ m → fed bytes three ≡ feed m (after-2 .board)
+shown-fed bytes m h = fed-as bytes m three (after-2 .board) (board-of second-fed) kind-2 h
+
+m12-below : fed at-1 three .answer ≡ 7
+unfolding applied afterAction afterNew afterChange anyWaiting look joining hit give gives count number entriesOf run after take snap feed
+m12-below = ap (λ (o : Out). o .answer) (shown-fed at-1 (shows 1 bid-1) read.says-at-1)
+
+m12-above : fed at-4 three .answer ≡ 8
+unfolding applied afterAction afterNew afterChange anyWaiting look joining hit give gives count number entriesOf run after take snap feed
+m12-above = ap (λ (o : Out). o .answer) (shown-fed at-4 (shows 4 bid-2) read.says-at-4)
+
+m12-taken : fed at-2 three .answer ≡ 4
+unfolding applied afterAction afterNew afterChange anyWaiting look joining hit give gives count number entriesOf run after take snap feed
+m12-taken = ap (λ (o : Out). o .answer) (shown-fed at-2 (shows 2 bid-2) read.says-at-2)
+
+m12-book : inst 7 (fed at-2 three .board) .book ≡ record { bids = bid-2 ∷ []; offers = offer-3 ∷ [] }
+unfolding applied afterAction afterNew afterChange anyWaiting look joining hit give gives count number entriesOf run after take snap feed
+m12-book = ap (λ (o : Out). inst 7 (o .board) .book) (shown-fed at-2 (shows 2 bid-2) read.says-at-2)
+
+pub marked-cases : MarkedCases
+marked-cases =
+    record {
+      m1 = price.m1;
+      m2 = price.m2;
+      m3 = price.m3;
+      m4-point = price.m4-point;
+      m4-eight = price.m4-eight;
+      m4-point-read = read.m4-point;
+      m4-eight-read = read.m4-eight;
+      m5-good = moment.m5-2024;
+      m5-2025 = moment.m5-2025;
+      m5-1900 = moment.m5-1900;
+      m6 = m6;
+      m7 = m7;
+      m8 = m8;
+      m9 = m9;
+      m10 = m10;
+      m10-past = m10-past;
+      m11-first = m11-first;
+      m11-third = m11-third;
+      m11-second = m11-second;
+      m11-base = m11-base;
+      m11-last = m11-last;
+      m12-below = m12-below;
+      m12-above = m12-above;
+      m12-taken = m12-taken;
+      m12-book = m12-book;
+      m13-quoted = λ b i d h. quote.m13-at-the-limit b i d (h .followed) (h .live) (h .some) (h .heard);
+      m13-old = λ b i d h. ap quoteNumber (quote.m13-past-it b i d (h .followed) (h .live) (h .some) (h .heard));
+      m13-ahead = λ b i d h. ap quoteNumber (quote.m13-before b i d (h .followed) (h .live) (h .some) (h .heard));
+      m14 = sums-to-29;
+    }

@@ -1,0 +1,4 @@
+pub mod Acts
+pub mod Recovery
+pub mod Hut
+pub mod Marked
