@@ -6,6 +6,7 @@ pub mod Entries
 pub mod Groups
 pub mod Heads
 pub mod RoundTrip
+pub mod TakenBack
 pub mod Taken
 pub mod Marked
 pub mod Bounds
