@@ -1,7 +1,10 @@
 // The functions that a C program calls; include/selkavorn.h says what each takes. None of them asks anything of its caller
 // beyond what C asks of a pointer and a length.
+ghost use mathlib.Core.Path.{_≡_};
 ghost use Rattle.opening.specs.Opening.{Opened};
 ghost use Rattle.feed.specs.Feeding.{Fed};
+ghost use Rattle.ask.specs.Ask.{quoteAnswer, quoteOut, stateAnswer, stateOut};
+ghost use Rattle.send.specs.Send.{sendAnswer, sendOut};
 
 // Opens a store for a depth kind (0 order depth, 1 price depth) and SecurityIDs.
 #[no_mangle]
@@ -17,4 +20,46 @@ pub extern "C" fn selkavorn_feed(store: &mut [u64], msg: &[u8]) -> u64
     ensures { λ r. ⌜ Fed (now (msg .entry)) (now (store .entry)) r (now (store .exit)) ⌝ }
 {
     feed::feed(store, msg)
+}
+
+// Quotes place 1 of each side with H and the heard moment, as 17 numbers in out; now is shaped as tag 52.
+#[no_mangle]
+pub extern "C" fn selkavorn_quote(
+    store: &[u64],
+    id: u64,
+    time: &[u8],
+    limit: u64,
+    out: &mut [u64],
+) -> u64
+    ensures { λ r. ⌜ r ≡ quoteAnswer id (now (time .entry)) limit (now (out .entry)) (now (store .entry)) ⌝ }
+    ensures { λ r. ⌜ now (out .exit) ≡ quoteOut id (now (time .entry)) limit (now (out .entry)) (now (store .entry)) ⌝ }
+{
+    ask::quote(store, id, time, limit, out)
+}
+
+// Writes an instrument's book as a snapshot, message k of a loop of m: the answer and 256 times its length.
+#[no_mangle]
+pub extern "C" fn selkavorn_write(
+    store: &[u64],
+    id: u64,
+    sender: &[u8],
+    target: &[u8],
+    k: u64,
+    m: u64,
+    time: &[u8],
+    out: &mut [u8],
+) -> u64
+    ensures { λ r. ⌜ r ≡ sendAnswer id (now (sender .entry)) (now (target .entry)) k m (now (time .entry)) (now (out .entry)) (now (store .entry)) ⌝ }
+    ensures { λ r. ⌜ now (out .exit) ≡ sendOut id (now (sender .entry)) (now (target .entry)) k m (now (time .entry)) (now (out .entry)) (now (store .entry)) ⌝ }
+{
+    send::write(store, id, sender, target, k, m, time, out)
+}
+
+// Says why an instrument waits, as 4 numbers in out: Waiting 1 or 0, the reason, bids held, offers held.
+#[no_mangle]
+pub extern "C" fn selkavorn_state(store: &[u64], id: u64, out: &mut [u64]) -> u64
+    ensures { λ r. ⌜ r ≡ stateAnswer id (now (out .entry)) (now (store .entry)) ⌝ }
+    ensures { λ r. ⌜ now (out .exit) ≡ stateOut id (now (out .entry)) (now (store .entry)) ⌝ }
+{
+    ask::state(store, id, out)
 }
