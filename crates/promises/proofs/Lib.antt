@@ -1,3 +1,6 @@
 pub mod Recovery
 pub mod Hut
 pub mod Marked
+pub mod Heard
+pub mod Quotes
+pub mod RoundTrip

@@ -66,7 +66,7 @@ pub starts : (depth : ℕ) (ids xs : List ℕ) → openAnswer depth ids xs ≡ 0
 starts depth ids xs e = record { sound = opened-is-sound depth ids xs e; same = opened-is-board depth ids xs e; kind = refl }
 
 -- ---- demand 3
-right-of : (depth : ℕ) (stream : List (List ℕ)) (d : ℕ) (a : Act) (xs : List ℕ) (b : Board) → boardAt xs ≡ b
+pub right-of : (depth : ℕ) (stream : List (List ℕ)) (d : ℕ) (a : Act) (xs : List ℕ) (b : Board) → boardAt xs ≡ b
     → Supposed depth stream d a xs → Right (readIn depth stream) d (callOf depth a) b
 right-of depth stream d (feeds bytes) xs b q p = rw q at p
 right-of depth stream d reads xs b q p = tt

@@ -2,3 +2,5 @@ pub mod Acts
 pub mod Recovery
 pub mod Hut
 pub mod Marked
+pub mod Quotes
+pub mod RoundTrip
