@@ -35,9 +35,9 @@ use Rattle.deliver.proofs.Applying.{applies}
 use Rattle.deliver.proofs.Giving.{give-formed}
 use Rattle.count.specs.Counts.{countedS, countS, numberS}
 use Rattle.count.proofs.Board.{counted-formed}
-use Rattle.replay.specs.Replays.{replayB, liveS, takeS, refusalOf, snapS}
-use Rattle.replay.proofs.Outcomes.{replay-kept}
-use Rattle.replay.proofs.Board.{not-refused}
+use Rattle.taking.specs.Replays.{replayB, liveS, takeS, refusalOf, snapS}
+use Rattle.taking.proofs.Outcomes.{replay-kept}
+use Rattle.taking.proofs.Board.{not-refused}
 use Rattle.channel.specs.Feeds.{aimedAt, feedS}
 
 -- t's store is s's but for numbers of the 7,168

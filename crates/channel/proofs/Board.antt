@@ -12,8 +12,8 @@ use Rattle.store.specs.Canon.{Formed, Canon}
 use Rattle.store.specs.Answers.{FedS, fed, meant}
 use Rattle.count.specs.Counts.{numberS}
 use Rattle.count.proofs.Board.{number-board, number-canon}
-use Rattle.replay.specs.Replays.{snapS}
-use Rattle.replay.proofs.Board.{snap-board, snap-canon}
+use Rattle.taking.specs.Replays.{snapS}
+use Rattle.taking.proofs.Board.{snap-board, snap-canon}
 use Rattle.channel.specs.Feeds.{aimedAt, feedS, Feeds}
 use Rattle.channel.proofs.Aiming.{shown-aimed}
 

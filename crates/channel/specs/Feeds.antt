@@ -15,7 +15,7 @@ use Rattle.store.specs.Meaning.{State, boardIn}
 use Rattle.store.specs.Canon.{Canon}
 use Rattle.store.specs.Answers.{FedS, fed}
 use Rattle.count.specs.Counts.{numberS}
-use Rattle.replay.specs.Replays.{snapS}
+use Rattle.taking.specs.Replays.{snapS}
 
 -- The message that a reading says: its first `count` updates are the entries.
 abbrev pub saidBy : Verdict → Reading → Message

@@ -69,7 +69,7 @@ pub fn feed_read(store: &mut [u64], h: Heading, r: Reading) -> Fed
     let v = r.verdict;
     match v {
         Verdict::Numbered => count::number(store, h, r.number, r.heard, &run, count),
-        Verdict::Snapshot => replay::snapshot(store, h, r.id, r.last, &run, count),
+        Verdict::Snapshot => taking::snapshot(store, h, r.id, r.last, &run, count),
         Verdict::BadFrame => Fed {
             head: h,
             answer: BAD_FRAME,

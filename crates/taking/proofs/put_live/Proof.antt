@@ -2,8 +2,8 @@
 use lib.ListN.{length-set}
 use mathlib.Core.Path.{_∙_}
 use borrow.Author.Needs.{needs}
-use Rattle.replay.proofs.put_live.Statement.{statement}
-use Rattle.replay.proofs.put_live.Tie as tie
+use Rattle.taking.proofs.put_live.Statement.{statement}
+use Rattle.taking.proofs.put_live.Tie as tie
 
 mul-save-side : tie.Need-mul-save-side
 mul-save-side c = search needs

@@ -1,14 +1,14 @@
 -- `take` meets its contract: the replay broke, or it did not.
-use Rattle.replay.proofs.Ways.{it-broke, it-held}
-use Rattle.replay.specs.Replays.{replayedS, takeS}
+use Rattle.taking.proofs.Ways.{it-broke, it-held}
+use Rattle.taking.specs.Replays.{replayedS, takeS}
 use Rattle.queue.specs.Joins.{settleS}
 use Rattle.store.specs.Answers.{fed}
 use Rattle.store.specs.Meaning.{State, st}
 use Rattle.book.specs.declared.Turn.{Turn}
 use mathlib.Core.Path.{ap, _∙_}
 use borrow.Author.Needs.{needs}
-use Rattle.replay.proofs.take.Statement.{statement}
-use Rattle.replay.proofs.take.Tie as tie
+use Rattle.taking.proofs.take.Statement.{statement}
+use Rattle.taking.proofs.take.Tie as tie
 
 replay-requires : tie.Need-replay-requires
 replay-requires c κs = search needs

@@ -30,9 +30,9 @@ use Rattle.queue.proofs.Board.{settle-board}
 use Rattle.deliver.specs.Gives.{breakS}
 use Rattle.deliver.proofs.Outcomes.{lists-of, outcomeOf}
 use Rattle.deliver.proofs.Breaking.{mark-own, break-formed, break-board}
-use Rattle.replay.specs.Replays.{replayB, liveS, replayedS, takeS, refusalOf, takeShownS, snapAtS, snapS}
-use Rattle.replay.proofs.Outcomes.{replay-kept, replay-outcome}
-use Rattle.replay.proofs.Living.{live-formed, live-board}
+use Rattle.taking.specs.Replays.{replayB, liveS, replayedS, takeS, refusalOf, takeShownS, snapAtS, snapS}
+use Rattle.taking.proofs.Outcomes.{replay-kept, replay-outcome}
+use Rattle.taking.proofs.Living.{live-formed, live-board}
 
 module _ (s : State) (f : Formed s) (i : ℕ) (l : i < s .head .followed) where
   few : i < 16

@@ -1,5 +1,5 @@
 -- `take_shown` meets its contract: both sides are counted before anything is written.
-use Rattle.replay.specs.Replays.{takeS}
+use Rattle.taking.specs.Replays.{takeS}
 use Rattle.store.specs.Meaning.{st}
 use Rattle.board.specs.Snapshot.{entriesOf, shown}
 use Rattle.cells.specs.Runs.{updatesIn}
@@ -14,8 +14,8 @@ use Prim.Native.Nat.{ℕ}
 use mathlib.Core.Bool.{true, false}
 use mathlib.Core.Path.{_≡_, ap, _∙_}
 use borrow.Author.Needs.{needs}
-use Rattle.replay.proofs.take_shown.Statement.{statement}
-use Rattle.replay.proofs.take_shown.Tie as tie
+use Rattle.taking.proofs.take_shown.Statement.{statement}
+use Rattle.taking.proofs.take_shown.Tie as tie
 
 show-requires : tie.Need-show-requires
 show-requires c κs = search needs

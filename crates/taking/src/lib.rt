@@ -16,7 +16,7 @@ ghost use Rattle.store.specs.Layout.{storeSize};
 ghost use Rattle.store.specs.Meaning.{queuedAt, st};
 ghost use Rattle.store.specs.Canon.{Formed};
 ghost use Rattle.store.specs.Answers.{fed};
-ghost use Rattle.replay.specs.Replays.{due, replayB, liveS, takeS, refusalOf, takeShownS, snapS};
+ghost use Rattle.taking.specs.Replays.{due, replayB, liveS, takeS, refusalOf, takeShownS, snapS};
 
 // The most places of a side.
 const PLACES: usize = 20;

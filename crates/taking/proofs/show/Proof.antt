@@ -1,5 +1,5 @@
 -- `show` meets its contract: the places made so far and the entries to come make the whole side.
-use Rattle.replay.proofs.Showing.{Shows, shows-none, shows-over, shows-put, shows-end, entries-pass, entries-take}
+use Rattle.taking.proofs.Showing.{Shows, shows-none, shows-over, shows-put, shows-end, entries-pass, entries-take}
 use Rattle.board.specs.Snapshot.{entriesOf}
 use Rattle.cells.proofs.Tables.{tab-end}
 use Rattle.cells.specs.Runs.{updatesIn}
@@ -14,8 +14,8 @@ use mathlib.Core.List.{_∷_}
 use mathlib.Core.Bool.{true, false}
 use mathlib.Core.Path.{_≡_, refl, sym, ap, _∙_}
 use borrow.Author.Needs.{needs}
-use Rattle.replay.proofs.show.Statement.{statement}
-use Rattle.replay.proofs.show.Tie as tie
+use Rattle.taking.proofs.show.Statement.{statement}
+use Rattle.taking.proofs.show.Tie as tie
 
 abbrev Inv-loop : tie.InvT-loop
 Inv-loop run count side places₀ n₀ i₀ places n i = (i ≤ count) × (n ≤ i) × Shows places n (entriesOf side (drop i (updatesIn run count))) (entriesOf side (updatesIn run count))

@@ -1,6 +1,6 @@
 -- `replay` meets its contract: what is left of the queue, on the book so far, gives the same.
-use Rattle.replay.proofs.Turns.{passes, goes-on, stops}
-use Rattle.replay.specs.Replays.{due, replayB}
+use Rattle.taking.proofs.Turns.{passes, goes-on, stops}
+use Rattle.taking.specs.Replays.{due, replayB}
 use Rattle.store.specs.Meaning.{queuedAt}
 use Rattle.cells.proofs.Tables.{tab-end}
 use Rattle.cells.specs.Cells.{tab}
@@ -13,8 +13,8 @@ use Prim.Native.Nat.{_+_, _*_, _-_, _≤_}
 use mathlib.Core.Bool.{true, false}
 use mathlib.Core.Path.{_≡_, refl, sym, ap, _∙_}
 use borrow.Author.Needs.{needs}
-use Rattle.replay.proofs.replay.Statement.{statement}
-use Rattle.replay.proofs.replay.Tie as tie
+use Rattle.taking.proofs.replay.Statement.{statement}
+use Rattle.taking.proofs.replay.Tie as tie
 
 abbrev Inv-loop : tie.InvT-loop
 Inv-loop store q i last b₀ k₀ b k = (k ≤ q) × (replayB i last (drop k (tab (queuedAt store) q)) b ≡ replayB i last (tab (queuedAt store) q) b₀)

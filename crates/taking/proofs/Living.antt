@@ -27,7 +27,7 @@ use Rattle.store.proofs.Regions.{Agree, agree-sets, agree-wider, agree-then, nu
 use Rattle.store.proofs.Decode.{inst-is, inst-marks, inst-apart, inst-other, book-apart, own-bids, own-offers, queue-behind, at-board, put-board}
 use Rattle.store.proofs.Kept.{formed-book, formed-reason}
 use Rattle.deliver.proofs.Breaking.{record-apart}
-use Rattle.replay.specs.Replays.{liveS}
+use Rattle.taking.specs.Replays.{liveS}
 
 unmark-own : (m i : ℕ) → i < 16 → marked (withoutMark m i) i ≡ false
 unmark-own m i h = marked-withoutMark m i i h h ∙ rw (eq-eqb i i refl)

@@ -1,15 +1,15 @@
 -- `snapshot` meets its contract: refused, or taken if its sides are not too wide.
-use Rattle.replay.proofs.Board.{not-refused}
-use Rattle.replay.proofs.Ways.{it-refused, it-admitted}
-use Rattle.replay.specs.Replays.{snapAtS, snapS}
+use Rattle.taking.proofs.Board.{not-refused}
+use Rattle.taking.proofs.Ways.{it-refused, it-admitted}
+use Rattle.taking.specs.Replays.{snapAtS, snapS}
 use Rattle.store.specs.Meaning.{st}
 use Rattle.cells.specs.Runs.{updatesIn}
 use native.Mathlib.Omega.{arith}
 use Prim.Native.Nat.{ℕ, _<_}
 use mathlib.Core.Path.{_≡_, ap, sym, _∙_}
 use borrow.Author.Needs.{needs}
-use Rattle.replay.proofs.snapshot.Statement.{statement}
-use Rattle.replay.proofs.snapshot.Tie as tie
+use Rattle.taking.proofs.snapshot.Statement.{statement}
+use Rattle.taking.proofs.snapshot.Tie as tie
 
 find-requires : tie.Need-find-requires
 find-requires c κs = search needs
