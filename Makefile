@@ -1,4 +1,7 @@
-# Two commands: `make run` (when there is something to run) and `make test`.
-.PHONY: test
+# `make run` builds all and replays the sample; `make test` proves and tests all.
+.PHONY: run test
+run:
+	@./scripts/build-gateway
+	@./scripts/run-program target/c/selkavorn replay --instruments 3809512,3809644,3810077 target/c/morning.fix
 test:
 	@./scripts/test

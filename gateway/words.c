@@ -1,4 +1,4 @@
-/* Answers, prices, moments and ages as a person reads them. */
+/* Answers, prices and moments as a person reads them, and the ages between moments. */
 #include "words.h"
 
 #include <inttypes.h>
@@ -83,21 +83,16 @@ static int64_t days(int64_t year, int64_t month, int64_t day)
     return years * 365 + years / 4 - years / 100 + years / 400 + (shifted * 153 + 2) / 5 + day - 1;
 }
 
-/* Milliseconds of a moment, days times 86,400,000 plus the time of day as written. */
-static int64_t moment_ms(int64_t date, int64_t time)
+int64_t moment_ms(uint64_t date, uint64_t time)
 {
-    int64_t minutes = time / 10000000 * 60 + time / 100000 % 100;
-    int64_t day_ms = minutes * 60000 + time % 100000;
-    return days(date / 10000, date / 100 % 100, date % 100) * 86400000 + day_ms;
+    int64_t minutes = (int64_t)(time / 10000000 * 60 + time / 100000 % 100);
+    int64_t day = days((int64_t)(date / 10000), (int64_t)(date / 100 % 100), (int64_t)(date % 100));
+    return day * 86400000 + minutes * 60000 + (int64_t)(time % 100000);
 }
 
-int64_t age_ms(uint64_t heard_date, uint64_t heard_time, const char *now, size_t now_n)
+int64_t text_ms(const char *moment)
 {
-    int64_t date = 0, time = 0;
-    for (size_t i = 0; i < 8 && i < now_n; i++)
-        date = date * 10 + (now[i] - '0');
-    for (size_t i = 9; i < 21; i++)
-        if (i != 11 && i != 14 && i != 17)
-            time = time * 10 + (i < now_n ? now[i] - '0' : 0);
-    return moment_ms(date, time) - moment_ms((int64_t)heard_date, (int64_t)heard_time);
+    unsigned date = 0, hour = 0, minute = 0, second = 0, ms = 0;
+    sscanf(moment, "%8u-%2u:%2u:%2u.%3u", &date, &hour, &minute, &second, &ms);
+    return moment_ms(date, ((hour * 100 + minute) * 100 + second) * UINT64_C(1000) + ms);
 }

@@ -6,7 +6,7 @@
 #include "replay.h"
 
 enum { AGE_TEXT = 32 };
-static const char ROW[] = "%-12s  %-5s  %-10s  %-6s  %-21s  %-10s  %-8s  %-16s  %s\n";
+static const char ROW[] = "%-12s  %-5s  %-10s  %-12s  %-21s  %-10s  %-8s  %-16s  %s\n";
 
 /* The moment at which the quotes are asked for. */
 static const char *now_of(const struct board *board, const struct request *request)
@@ -17,12 +17,12 @@ static const char *now_of(const struct board *board, const struct request *reque
 static void print_heading(const struct board *board, const struct request *request)
 {
     if (request->now != NULL)
-        printf("Quotes at %s, the moment given by --now", request->now);
+        printf("\nQuotes at %s, the moment given by --now", request->now);
     else if (board->latest[0] != '\0')
-        printf("Quotes at %s, the latest time in the recording, since --now was not given",
+        printf("\nQuotes at %s, the latest time in the recording, since --now was not given",
                board->latest);
     else
-        printf("Quotes: the recording has no time in it, and --now was not given");
+        printf("\nQuotes: the recording has no time in it, and --now was not given");
     printf("; limit %" PRIu64 " s\n", request->limit_s);
     if (board->number > 0)
         printf("Last counted: number %" PRIu64 ", sent %s\n", board->number, board->heard);
@@ -37,7 +37,7 @@ static void print_side(const struct request *request, const char *id, const char
     char price[PRICE_TEXT] = "empty", size[ORDER_TEXT] = "-", order[ORDER_TEXT] = "-";
     char entered[MOMENT_TEXT] = "-", heard[MOMENT_TEXT], number[ORDER_TEXT], age[AGE_TEXT];
     uint64_t date = quote[SELKAVORN_QUOTE_HEARD_DATE], time = quote[SELKAVORN_QUOTE_HEARD_TIME];
-    int64_t ms = age_ms(date, time, now, strlen(now));
+    int64_t age_ms = text_ms(now) - moment_ms(date, time);
     if (side[SELKAVORN_SIDE_HELD] == 1) {
         price_words(side[SELKAVORN_SIDE_PRICE], price);
         snprintf(size, sizeof size, "%" PRIu64, side[SELKAVORN_SIDE_SIZE]);
@@ -49,7 +49,7 @@ static void print_side(const struct request *request, const char *id, const char
     }
     moment_words(date, time, heard);
     snprintf(number, sizeof number, "%" PRIu64, quote[SELKAVORN_QUOTE_NUMBER]);
-    snprintf(age, sizeof age, "%" PRId64 ".%03" PRId64 " s", ms / 1000, ms % 1000);
+    snprintf(age, sizeof age, "%" PRId64 ".%03" PRId64 " s", age_ms / 1000, age_ms % 1000);
     printf(ROW, id, name, price, size, heard, age, number, order, entered);
 }
 

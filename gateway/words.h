@@ -1,8 +1,7 @@
-/* Answers, prices, moments and ages as a person reads them. */
+/* Answers, prices and moments as a person reads them, and the ages between moments. */
 #ifndef WORDS_H
 #define WORDS_H
 
-#include <stddef.h>
 #include <stdint.h>
 
 enum {
@@ -26,7 +25,11 @@ void moment_words(uint64_t date, uint64_t time, char text[MOMENT_TEXT]);
 /* The bytes of an order id, from the two numbers that a quote gives for it. */
 void order_words(uint64_t by, uint64_t more, char text[ORDER_TEXT]);
 
-/* The milliseconds from a heard date and time to a moment shaped as tag 52. */
-int64_t age_ms(uint64_t heard_date, uint64_t heard_time, const char *now, size_t now_n);
+/* A date YYYYMMDD and a time HHMMSSmmm in milliseconds, as 01 counts an age: days times 86,400,000
+ * plus the time of day as written. */
+int64_t moment_ms(uint64_t date, uint64_t time);
+
+/* The same of a good moment shaped as tag 52. */
+int64_t text_ms(const char *moment);
 
 #endif

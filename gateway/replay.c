@@ -17,6 +17,7 @@ struct totals {
     uint64_t runs, passed;   /* runs of passed bytes, and their bytes */
     uint64_t fields_refused; /* messages answered SELKAVORN_FIELDS */
     uint64_t well_formed;    /* X and W messages answered 0 to 10 */
+    uint64_t resets;         /* sequence resets that were passed over */
 };
 
 uint64_t board_open(struct board *board, const struct request *request)
@@ -73,9 +74,7 @@ static void print_message(const struct piece *message, uint64_t answer, uint64_t
     printf("%2" PRIu64 " %s", answer, answer_words(answer));
     if (answer == SELKAVORN_GAP)
         print_missed(before + 1, value_number(message_first(message, "34")) - 1);
-    if (is_reset(message, answer))
-        printf(", a sequence reset");
-    putchar('\n');
+    puts(is_reset(message, answer) ? ", a sequence reset" : "");
 }
 
 /* Remembers the number and the time of a message that was well-formed. */
@@ -86,7 +85,7 @@ static void remember(struct board *board, const struct piece *message, uint64_t 
     if (!is_well_formed(answer) || sent.length >= MOMENT_TEXT)
         return;
     memcpy(time, sent.bytes, sent.length);
-    if (strcmp(time, board->latest) > 0)
+    if (board->latest[0] == '\0' || text_ms(time) > text_ms(board->latest))
         strcpy(board->latest, time);
     if (is_counted(answer)) {
         strcpy(board->heard, time);
@@ -129,8 +128,12 @@ static void print_passed(const struct piece *run)
 
 static void print_totals(const struct totals *totals)
 {
-    printf("Messages: %" PRIu64 ". Bytes passed over: %" PRIu64 ", in runs: %" PRIu64 ".\n\n",
+    printf("Messages: %" PRIu64 ". Bytes passed over: %" PRIu64 ", in runs: %" PRIu64 ".\n",
            totals->messages, totals->passed, totals->runs);
+    if (totals->resets > 0)
+        printf("Sequence resets passed over: %" PRIu64 ". If one was of the incremental stream, the "
+               "quotes are wrong.\n",
+               totals->resets);
     fflush(stdout);
     if (totals->fields_refused > totals->well_formed)
         fprintf(stderr,
@@ -155,6 +158,7 @@ static void take_piece(struct board *board, const struct request *request,
     totals->messages++;
     totals->fields_refused += answer == SELKAVORN_FIELDS;
     totals->well_formed += is_well_formed(answer) && message_names_instruments(piece);
+    totals->resets += is_reset(piece, answer) && request->pass_resets;
     if (may_hold_another(answer))
         recording_look_inside(recording, piece);
 }
@@ -186,6 +190,10 @@ enum status replay(struct board *board, const struct request *request, int file)
     progress_end(&progress);
     print_totals(&totals);
     enum status status = reading_status(request, recording.failure);
+    if (status == STATUS_GOOD && totals.messages == 0) {
+        fprintf(stderr, "selkavorn: %s holds no message\n", request->path);
+        status = STATUS_FILE;
+    }
     if (status == STATUS_GOOD)
         print_quotes(board, request);
     return status;

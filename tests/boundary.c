@@ -2,21 +2,26 @@
  *
  * Every answer number is reached. Around every call the lent runs are watched: a refusal must leave
  * store and output as they were, and nothing may touch the guards around them, what lies beyond a
- * store's 7,168 numbers, or what lies beyond a quote, a state or a written message. */
+ * store's 7,168 numbers, or what lies beyond a quote, a state or a written message. What a call
+ * only reads ends where memory that cannot be read begins. */
+#define _DEFAULT_SOURCE /* for MAP_ANONYMOUS */
 
 #include <inttypes.h>
 #include <stdarg.h>
 #include <stdbool.h>
 #include <stdio.h>
+#include <stdlib.h>
 #include <string.h>
+#include <sys/mman.h>
 
 #include "selkavorn.h"
 
 enum {
-    GUARD = 65,         /* odd, so that a store starts at an odd multiple of 8 bytes */
-    STORE_ROOM = 7300,  /* a store larger than it must be */
-    BYTES_ROOM = 4400,  /* more than the longest written message */
-    MESSAGE_ROOM = 9000 /* more than the longest message that is read */
+    GUARD = 65,          /* odd, so that a store starts at an odd multiple of 8 bytes */
+    STORE_ROOM = 7300,   /* a store larger than it must be */
+    BYTES_ROOM = 4400,   /* more than the longest written message */
+    MESSAGE_ROOM = 9000, /* more than the longest message that is read */
+    EDGE_ROOM = 1 << 16  /* readable bytes before an edge; a multiple of every usual page */
 };
 #define GUARD_NUMBER UINT64_C(0xA5C3A5C3A5C3A5C3)
 #define GUARD_BYTE 0xA5
@@ -78,6 +83,34 @@ static uint64_t *store_of(struct board *board)
     return board->area + GUARD;
 }
 
+/* Gives an edge: EDGE_ROOM bytes before it can be used, the bytes from it on cannot be read. */
+static uint8_t *make_edge(void)
+{
+    uint8_t *room = mmap(NULL, 2 * EDGE_ROOM, PROT_READ | PROT_WRITE, MAP_PRIVATE | MAP_ANONYMOUS,
+                         -1, 0);
+    if (room == MAP_FAILED || mprotect(room + EDGE_ROOM, EDGE_ROOM, PROT_NONE) != 0) {
+        perror("memory");
+        exit(2);
+    }
+    return room + EDGE_ROOM;
+}
+
+/* What a call only reads is lent as a copy that ends at an edge of its own. */
+enum lent { MESSAGE, IDS, SENDER, TARGET, MOMENT, LENT };
+
+static void *lend(enum lent which, const void *run, size_t n)
+{
+    static uint8_t *edges[LENT];
+    if (edges[which] == NULL)
+        edges[which] = make_edge();
+    return run == NULL ? NULL : memcpy(edges[which] - n, run, n);
+}
+
+static const uint8_t *lend_text(enum lent which, const char *text)
+{
+    return lend(which, text, strlen(text));
+}
+
 static void fresh(struct board *board)
 {
     for (size_t i = 0; i < sizeof board->area / sizeof *board->area; i++)
@@ -121,7 +154,8 @@ static void check_outputs(size_t wrote_numbers, size_t wrote_bytes)
 static uint64_t open_board(struct board *board, uint64_t depth, const uint64_t *ids, size_t ids_n)
 {
     before_call(board);
-    uint64_t answer = selkavorn_open(store_of(board), board->n, depth, ids, ids_n);
+    uint64_t answer = selkavorn_open(store_of(board), board->n, depth,
+                                     lend(IDS, ids, ids_n * sizeof *ids), ids_n);
     reached[SELKAVORN_ANSWER(answer)] = true;
     check_store(board, answer == SELKAVORN_DONE ? SELKAVORN_STORE_NUMBERS : 0);
     check_outputs(0, 0);
@@ -139,7 +173,7 @@ static void open_fresh(struct board *board, uint64_t depth)
 static uint64_t feed_bytes(struct board *board, const uint8_t *message, size_t n)
 {
     before_call(board);
-    uint64_t answered = selkavorn_feed(store_of(board), board->n, message, n);
+    uint64_t answered = selkavorn_feed(store_of(board), board->n, lend(MESSAGE, message, n), n);
     uint64_t answer = SELKAVORN_ANSWER(answered);
     bool changes = answer == SELKAVORN_DONE || answer == SELKAVORN_GAP ||
                    answer == SELKAVORN_LET_GO || answer == SELKAVORN_TAKEN ||
@@ -154,7 +188,7 @@ static uint64_t quote(struct board *board, uint64_t id, const char *now, uint64_
                       size_t room)
 {
     before_call(board);
-    uint64_t answer = selkavorn_quote(store_of(board), board->n, id, (const uint8_t *)now,
+    uint64_t answer = selkavorn_quote(store_of(board), board->n, id, lend_text(MOMENT, now),
                                       strlen(now), limit_s, numbers, room);
     reached[SELKAVORN_ANSWER(answer)] = true;
     check_store(board, 0);
@@ -184,10 +218,10 @@ struct writing {
 static uint64_t write_book(struct board *board, struct writing w)
 {
     before_call(board);
-    uint64_t answered = selkavorn_write(store_of(board), board->n, w.id, (const uint8_t *)w.sender,
-                                        strlen(w.sender), (const uint8_t *)w.target,
-                                        strlen(w.target), w.k, w.m, (const uint8_t *)w.time,
-                                        strlen(w.time), bytes, w.room);
+    uint64_t answered = selkavorn_write(store_of(board), board->n, w.id,
+                                        lend_text(SENDER, w.sender), strlen(w.sender),
+                                        lend_text(TARGET, w.target), strlen(w.target), w.k, w.m,
+                                        lend_text(MOMENT, w.time), strlen(w.time), bytes, w.room);
     reached[SELKAVORN_ANSWER(answered)] = true;
     check_store(board, 0);
     check_outputs(0, (size_t)SELKAVORN_LENGTH(answered));
@@ -300,6 +334,10 @@ static void test_opening(void)
     check_equal(open_board(&first, 0, twice, 3), SELKAVORN_ARGUMENT, "an instrument twice");
     check_equal(open_board(&first, 0, zero, 2), SELKAVORN_ARGUMENT, "SecurityID 0");
     check_equal(open_board(&first, 0, long_id, 1), SELKAVORN_ARGUMENT, "19 digits");
+    fresh(&second);
+    memset(store_of(&second), 0, SELKAVORN_STORE_NUMBERS * sizeof(uint64_t));
+    check_equal(open_board(&second, 1, longest, 1), SELKAVORN_DONE, "on zeros");
+    check(memcmp(first.area, second.area, sizeof first.area) == 0, "whatever the store held");
     first.n = SELKAVORN_STORE_NUMBERS;
     check_equal(open_board(&first, 0, ids, 3), SELKAVORN_DONE, "a store of 7,168");
     first.n = SELKAVORN_STORE_NUMBERS - 1;
@@ -413,11 +451,12 @@ static void test_store(void)
     open_fresh(&first, SELKAVORN_ORDER_DEPTH);
     bool noticed = true;
     for (size_t i = 0; i < SELKAVORN_STORE_NUMBERS; i++) {
-        uint64_t *place = store_of(&first) + i, kept = *place, out[SELKAVORN_STATE_NUMBERS];
-        *place = UINT64_MAX;
-        noticed = noticed && selkavorn_state(store_of(&first), first.n, 7, out,
-                                             SELKAVORN_STATE_NUMBERS) == SELKAVORN_STORE;
-        *place = kept;
+        uint64_t *store = store_of(&first), kept = store[i], out[SELKAVORN_STATE_NUMBERS];
+        store[i] = UINT64_MAX;
+        noticed = noticed && selkavorn_feed(store, first.n, NULL, 0) == SELKAVORN_STORE &&
+                  selkavorn_state(store, first.n, 7, out, SELKAVORN_STATE_NUMBERS) ==
+                      SELKAVORN_STORE;
+        store[i] = kept;
     }
     check(noticed, "each number, when it is out of its range");
     store_of(&first)[SELKAVORN_STORE_NUMBERS] = 1;
@@ -647,6 +686,34 @@ static void test_copy(void)
     end();
 }
 
+/* Store and output too end at an edge, and have exactly the elements that they must have. */
+static void test_edges(void)
+{
+    static const uint64_t id = 7;
+    const size_t n = SELKAVORN_STORE_NUMBERS;
+    uint64_t *store = (uint64_t *)(void *)make_edge() - n;
+    uint64_t *quoted = (uint64_t *)(void *)make_edge() - SELKAVORN_QUOTE_NUMBERS;
+    uint64_t *stated = (uint64_t *)(void *)make_edge() - SELKAVORN_STATE_NUMBERS;
+    uint8_t *written = make_edge() - 110;
+    const uint8_t *now = lend_text(MOMENT, "20250103-13:00:00");
+    begin("store and output at an edge");
+    check_equal(selkavorn_open(store, n, 0, lend(IDS, &id, sizeof id), 1), SELKAVORN_DONE, "open");
+    make(EMPTY_W, 7, 0);
+    check_equal(selkavorn_feed(store, n, lend(MESSAGE, message, message_n), message_n),
+                SELKAVORN_TAKEN, "a snapshot");
+    check_equal(selkavorn_write(store, n, id, lend_text(SENDER, "SHED"), 4,
+                                lend_text(TARGET, "YARD"), 4, 1, 1, now, 17, written, 110),
+                256 * 110, "write");
+    make(HEARTBEAT, 1);
+    check_equal(selkavorn_feed(store, n, lend(MESSAGE, message, message_n), message_n),
+                SELKAVORN_DONE, "a heartbeat");
+    check_equal(selkavorn_quote(store, n, id, now, 17, 0, quoted, SELKAVORN_QUOTE_NUMBERS),
+                SELKAVORN_DONE, "quote");
+    check_equal(selkavorn_state(store, n, id, stated, SELKAVORN_STATE_NUMBERS), SELKAVORN_DONE,
+                "state");
+    end();
+}
+
 static void test_reached(void)
 {
     char name[32];
@@ -662,6 +729,7 @@ static void test_reached(void)
 
 int main(void)
 {
+    setvbuf(stdout, NULL, _IOLBF, BUFSIZ); /* a crash shows behind which group it came */
     test_opening();
     test_counting();
     test_queue();
@@ -673,6 +741,7 @@ int main(void)
     test_writing();
     test_round_trip();
     test_copy();
+    test_edges();
     test_reached();
     printf("%u passed, %u failed\n", passed, failed);
     return failed == 0 ? 0 : 1;

@@ -24,7 +24,12 @@ static const char HELP[] =
     "\n"
     "FILE holds messages end to end: the incremental stream and the snapshots (W) of its\n"
     "snapshot stream. It must not hold the heartbeats of the snapshot stream: their numbers\n"
-    "would be counted. Bytes that are no message are passed over and told. - is standard input.\n"
+    "would be counted. - is standard input.\n"
+    "\n"
+    "A message is found by its first two fields, 8=FIX.4.4 and 9, and by its last: 10 must stand\n"
+    "where 9 says. Where none begins, a byte is passed over, and runs of such bytes are told. If\n"
+    "the frame or the checksum of one is refused, the search goes on from its second byte. So no\n"
+    "bad stretch hides a whole message in it or after it.\n"
     "\n"
     "  --depth order|price      kind of the channel; order unless given\n"
     "  --instruments ID[,ID..]  1 to 16 SecurityIDs to follow; unless given, those that the\n"
@@ -33,7 +38,7 @@ static const char HELP[] =
     "                           20250103-13:00:00 or 20250103-13:00:00.000\n"
     "  --limit SECONDS          give no quote that is older than this at that moment,\n"
     "                           0 to 86400; 30 unless given\n"
-    "  --quote                  print the quotes alone\n"
+    "  --quote                  print the quotes, and no line for each message\n"
     "  --resets open|pass       at a sequence reset (35=4) open the board afresh, or pass it\n"
     "                           over; open unless given\n"
     "  --help                   print this\n"
@@ -49,7 +54,7 @@ static const char HELP[] =
     "such.\n"
     "\n"
     "Exit status: 0 done; 1 the output could not be written; 2 bad use; 3 the file could not\n"
-    "be read, or no instrument is named in it.\n";
+    "be read, holds no message, or names no instrument.\n";
 
 /* Says what is wrong with the command line, and ends. */
 static _Noreturn void bad_use(const char *what, const char *word)
@@ -154,7 +159,8 @@ static void check_moment(struct board *board, const struct request *request)
 /* Finds the instruments that the recording names, and goes back to its start. */
 static enum status name_instruments(struct request *request, int file)
 {
-    if (lseek(file, 0, SEEK_SET) != 0)
+    off_t start = lseek(file, 0, SEEK_CUR);
+    if (start < 0)
         bad_use("it can be read only once: say --instruments", request->path);
     enum status status = find_instruments(request, file);
     if (status != STATUS_GOOD)
@@ -168,7 +174,7 @@ static enum status name_instruments(struct request *request, int file)
                 request->path);
         return STATUS_FILE;
     }
-    lseek(file, 0, SEEK_SET);
+    lseek(file, start, SEEK_SET);
     return STATUS_GOOD;
 }
 

@@ -13,26 +13,28 @@
  *
  * Duties of the caller
  *   1. Feed the incremental stream whole, in the order in which it comes, and the W messages of its
- *      snapshot stream, at any point between them. One call takes one message.
+ *      snapshot stream, at any point between them. One call takes one message. One that comes
+ *      again, as from a second line, does no harm.
  *   2. Do not feed the other messages of the snapshot stream, its heartbeats (35=0) above all, nor
  *      any other stream: their numbers (34) would be counted as those of the incremental stream.
  *   3. After a sequence reset (35=4) on the incremental stream its numbers start anew: call
- *      selkavorn_open again before the next message. The library answers it with
- *      SELKAVORN_TYPE, as it does every type it does not know. Without a new opening the new
- *      messages are old until their numbers pass H, and the books are then wrong.
+ *      selkavorn_open again before the next message, and feed no snapshot that was sent before the
+ *      reset. The library does not know the type and answers it with SELKAVORN_TYPE. Without a new
+ *      opening the new messages are old until their numbers pass H, and the books are then wrong.
  *   4. Use a store from one thread at a time. Different stores have nothing in common.
- *   5. Lend runs that do not overlap: store, message, names, moments and output. A run of numbers
- *      starts at a multiple of 8 bytes. Each run has at least as many elements as its count says.
+ *   5. Lend runs that do not overlap: store, message, SecurityIDs, names, moments and output. Only
+ *      runs that a call does not write may share bytes. A run of numbers starts at a multiple of 8
+ *      bytes. Each run has at least as many elements as its count says.
  *   6. Take "now" from a clock that is right, in the time zone of tag 52, which is UTC. The age of
  *      a quote is no better than that clock.
  *
  * Arguments
- *   A run is a pointer and a count of its elements (numbers, not bytes, for a store). Where the
- *   count is 0 the pointer is not followed and may be NULL.
+ *   A run is a pointer and a count of its elements: of numbers for a run of uint64_t, of bytes for
+ *   a run of uint8_t. Where the count is 0 the pointer is not followed and may be NULL.
  *   A SecurityID (tag 48) is a number of 1 to 18 digits, at least 1.
  *   A moment is a run of bytes shaped as tag 52: YYYYMMDD-HH:MM:SS with or without .sss; a
- *   Gregorian date, hours to 23, minutes to 59, seconds to 60.
- *   Neither needs a zero byte at its end.
+ *   Gregorian date, years 0000 to 9999, hours to 23, minutes to 59, seconds to 60. No zero byte
+ *   ends it.
  *
  * Answers
  *   Every call answers a number of enum selkavorn_answer; selkavorn_feed and selkavorn_write put a
