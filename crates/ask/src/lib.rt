@@ -19,20 +19,7 @@ ghost use Rattle.quote.specs.Quotes.{quoteNumber, quoteOf};
 ghost use Rattle.ask.specs.Ask.{quoteSize, bitsOf, momentWords, byWords, entryWords, topWords, quoteWords, quotedRoom, quoteAnswer, quoteOut, stateWords, stateAnswer, stateOut};
 ghost use Rattle.ask.specs.Fine.{FineTop, FineQuote, FineQuoted};
 
-// The answers of document 01: done.
-const DONE: u64 = 0;
-
-// The store is under 7,168 numbers, or unsound.
-const BAD_STORE: u64 = 17;
-
-// An argument is outside its range, or the room is too short.
-const BAD_ARGUMENT: u64 = 18;
-
-// Not followed; Waiting; nothing heard yet.
-const NOT_FOLLOWED: u64 = 20;
-
-const WAITING: u64 = 21;
-
+// Nothing heard yet.
 const NOTHING_HEARD: u64 = 22;
 
 // Age below 0; age above the limit.
@@ -46,9 +33,6 @@ const QUOTE: usize = 17;
 const TOP: usize = 7;
 
 const STATE: usize = 4;
-
-// 48: 18 digits.
-const MOST_ID: u64 = 999999999999999999;
 
 // The greatest number of 64 bits.
 const MOST_BITS: u64 = 18446744073709551615;
@@ -132,12 +116,12 @@ fn tell(out: &mut [u64], depth: u64, q: Quoted) -> u64
     match q {
         Quoted::Is(x) => {
             put_quote(out, depth, x);
-            return DONE;
+            return store::DONE;
         }
-        Quoted::Unsound => return BAD_STORE,
-        Quoted::BadArgument => return BAD_ARGUMENT,
-        Quoted::NotFollowed => return NOT_FOLLOWED,
-        Quoted::Waiting => return WAITING,
+        Quoted::Unsound => return store::BAD_STORE,
+        Quoted::BadArgument => return store::BAD_ARGUMENT,
+        Quoted::NotFollowed => return store::NOT_FOLLOWED,
+        Quoted::Waiting => return store::WAITING,
         Quoted::NothingHeard => return NOTHING_HEARD,
         Quoted::BeforeHeard => return BEFORE_HEARD,
         Quoted::TooOld => return TOO_OLD,
@@ -162,10 +146,10 @@ pub fn quote(store: &[u64], id: u64, time: &[u8], limit: u64, out: &mut [u64]) -
     ensures { λ r. ⌜ now (out .exit) ≡ quoteOut id (now (time .entry)) limit (now (out .entry)) (now (store .entry)) ⌝ }
 {
     if !sound::sound(store) {
-        return BAD_STORE;
+        return store::BAD_STORE;
     }
     if out.len() < QUOTE {
-        return BAD_ARGUMENT;
+        return store::BAD_ARGUMENT;
     }
     quote_into(store, id, time, limit, out)
 }
@@ -196,19 +180,19 @@ pub fn state(store: &[u64], id: u64, out: &mut [u64]) -> u64
     ensures { λ r. ⌜ now (out .exit) ≡ stateOut id (now (out .entry)) (now (store .entry)) ⌝ }
 {
     if !sound::sound(store) {
-        return BAD_STORE;
+        return store::BAD_STORE;
     }
     if out.len() < STATE {
-        return BAD_ARGUMENT;
+        return store::BAD_ARGUMENT;
     }
-    if (id < 1) | (MOST_ID < id) {
-        return BAD_ARGUMENT;
+    if (id < 1) | (store::MOST_ID < id) {
+        return store::BAD_ARGUMENT;
     }
     let h = store::load_heading(store);
     let i = store::find(store, h, id);
     if h.followed <= i {
-        return NOT_FOLLOWED;
+        return store::NOT_FOLLOWED;
     }
     put_state(store, h, i, out);
-    DONE
+    store::DONE
 }

@@ -2,9 +2,6 @@
 // refusal is past.
 ghost use Rattle.feed.specs.Feeding.{Fed};
 
-// The store is unsound.
-const UNSOUND: u64 = 17;
-
 // The Waiting count stands above the answer.
 const ABOVE: u64 = 256;
 
@@ -14,7 +11,7 @@ pub fn feed(store: &mut [u64], message: &[u8]) -> u64
     ensures { λ r. ⌜ Fed (now (message .entry)) (now (store .entry)) r (now (store .exit)) ⌝ }
 {
     if !sound::sound(store) {
-        return UNSOUND;
+        return store::BAD_STORE;
     }
     let h = store::load_heading(store);
     let r = fields::read(message, h.depth);

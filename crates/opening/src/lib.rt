@@ -13,36 +13,11 @@ ghost use Rattle.store.specs.Meaning.{written};
 ghost use Rattle.opening.specs.Opening.{Opened};
 ghost use Rattle.opening.specs.Steps.{freshHeading, idsIn};
 
-// The answers of document 01: done.
-const DONE: u64 = 0;
-
-// The store is under 7,168 numbers.
-const BAD_STORE: u64 = 17;
-
-// An argument is outside its range.
-const BAD_ARGUMENT: u64 = 18;
-
-// The store's numbers.
-const STORE: usize = 7168;
-
-// The number of this layout, and where it stands.
-const LAYOUT: u64 = 4601;
-
-const AT_LAYOUT: usize = 0;
-
-// The instruments' records: where they start, and how far apart they stand.
-const IDS: usize = 32;
-
-const RECORD: usize = 8;
-
 // The depth kind is 0 or 1.
 const MOST_DEPTH: u64 = 1;
 
 // A channel follows at most 16 instruments.
 const MOST_INSTS: usize = 16;
-
-// 48: 18 digits.
-const MOST_ID: u64 = 999999999999999999;
 
 // Whether each SecurityID is in range.
 fn ids_fine(ids: &[u64]) -> bool
@@ -50,7 +25,7 @@ fn ids_fine(ids: &[u64]) -> bool
 {
     let mut i = 0usize;
     while i < ids.len() {
-        if (ids[i] < 1) | (MOST_ID < ids[i]) {
+        if (ids[i] < 1) | (store::MOST_ID < ids[i]) {
             return false;
         }
         i += 1;
@@ -98,7 +73,7 @@ fn put_ids(store: &mut [u64], ids: &[u64])
 {
     let mut i = 0usize;
     while i < ids.len() {
-        store[IDS + i * RECORD] = ids[i];
+        store[store::IDS + i * store::RECORD] = ids[i];
         i += 1;
     }
 }
@@ -109,8 +84,8 @@ fn write(store: &mut [u64], depth: u64, ids: &[u64])
     ensures { λ _. ⌜ now (store .exit) ≡ written (opened depth (now (ids .entry))) ++ drop storeSize (now (store .entry)) ⌝ }
 {
     let h = fresh(depth, ids.len());
-    cells::zero_run(store, 0, STORE);
-    store[AT_LAYOUT] = LAYOUT;
+    cells::zero_run(store, 0, store::STORE);
+    store[store::AT_LAYOUT] = store::LAYOUT;
     store::save_heading(store, h);
     put_ids(store, ids);
 }
@@ -119,12 +94,12 @@ fn write(store: &mut [u64], depth: u64, ids: &[u64])
 pub fn open_store(store: &mut [u64], depth: u64, ids: &[u64]) -> u64
     ensures { λ r. ⌜ Opened depth (now (ids .entry)) (now (store .entry)) r (now (store .exit)) ⌝ }
 {
-    if store.len() < STORE {
-        return BAD_STORE;
+    if store.len() < store::STORE {
+        return store::BAD_STORE;
     }
     if !takes(depth, ids) {
-        return BAD_ARGUMENT;
+        return store::BAD_ARGUMENT;
     }
     write(store, depth, ids);
-    DONE
+    store::DONE
 }

@@ -43,8 +43,6 @@ pub enum Quoted {
 // The longest limit, in seconds.
 pub const MOST_LIMIT: u64 = 86400;
 
-const MOST_ID: u64 = 999999999999999999;
-
 fn first_of(store: &[u64], at: usize) -> Top
     requires { ⌜ at + 101 ≤ length (now store) ⌝ }
     ensures { λ r. ⌜ r ≡ topOf (heldIn (sideAt (now (store .entry)) at)) ⌝ }
@@ -107,7 +105,7 @@ pub fn quote_for(store: &[u64], h: Heading, id: u64, time: &[u8], limit: u64) ->
     if id < 1 {
         return Quoted::BadArgument;
     }
-    if MOST_ID < id {
+    if store::MOST_ID < id {
         return Quoted::BadArgument;
     }
     if MOST_LIMIT < limit {

@@ -13,20 +13,6 @@ ghost use Rattle.sound.specs.Sound.{sound};
 ghost use Rattle.writer.specs.Writing.{letter, pageOf, Ready, writtenOf, outAfter};
 ghost use Rattle.send.specs.Send.{argumentsFine, pageAt, writtenNumber, pageAnswer, pageOut, sendAnswer, sendOut};
 
-// The answers of document 01: the store is under 7,168 numbers, or unsound.
-const BAD_STORE: u64 = 17;
-
-// An argument is outside its range.
-const BAD_ARGUMENT: u64 = 18;
-
-// Not followed; Waiting.
-const NOT_FOLLOWED: u64 = 20;
-
-const WAITING: u64 = 21;
-
-// 48: 18 digits.
-const MOST_ID: u64 = 999999999999999999;
-
 // A loop has at most 16 messages.
 const MOST_LOOP: u64 = 16;
 
@@ -37,7 +23,7 @@ const LENGTHS: u64 = 256;
 fn arguments_fine(id: u64, sender: &[u8], target: &[u8], k: u64, m: u64) -> bool
     ensures { λ r. ⌜ r ≡ argumentsFine id (now (sender .entry)) (now (target .entry)) k m ⌝ }
 {
-    if (id < 1) | (MOST_ID < id) {
+    if (id < 1) | (store::MOST_ID < id) {
         return false;
     }
     if !writer::id_bytes(sender) {
@@ -100,10 +86,10 @@ fn write_sound(
     let h = store::load_heading(store);
     let i = store::find(store, h, id);
     if h.followed <= i {
-        return NOT_FOLLOWED;
+        return store::NOT_FOLLOWED;
     }
     if h.waits(i) {
-        return WAITING;
+        return store::WAITING;
     }
     write_book(
         store,
@@ -136,13 +122,13 @@ pub fn write(
     ensures { λ r. ⌜ now (out .exit) ≡ sendOut id (now (sender .entry)) (now (target .entry)) k m (now (time .entry)) (now (out .entry)) (now (store .entry)) ⌝ }
 {
     if !sound::sound(store) {
-        return BAD_STORE;
+        return store::BAD_STORE;
     }
     let Number::Is(t) = moment::moment(time) else {
-        return BAD_ARGUMENT;
+        return store::BAD_ARGUMENT;
     };
     if !arguments_fine(id, sender, target, k, m) {
-        return BAD_ARGUMENT;
+        return store::BAD_ARGUMENT;
     }
     write_sound(store, id, sender, target, k, m, t, out)
 }

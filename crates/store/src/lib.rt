@@ -10,20 +10,28 @@ ghost use Rattle.store.specs.Layout.{storeSize, atDepth, atMarks};
 ghost use Rattle.store.specs.Meaning.{headingAt, headWords, st, boardIn};
 ghost use Rattle.store.specs.Steps.{gapS};
 
+// The store's numbers.
+pub const STORE: usize = 7168;
+
+// The number of this layout, and where it stands.
+pub const LAYOUT: u64 = 4601;
+
+pub const AT_LAYOUT: usize = 0;
+
 // The heading's numbers, behind the layout's own.
-const DEPTH: usize = 1;
+pub const DEPTH: usize = 1;
 
-const FOLLOWED: usize = 2;
+pub const FOLLOWED: usize = 2;
 
-const NUMBER: usize = 3;
+pub const NUMBER: usize = 3;
 
-const BASE: usize = 4;
+pub const BASE: usize = 4;
 
-const HEARD: usize = 5;
+pub const HEARD: usize = 5;
 
-const MARKS: usize = 6;
+pub const MARKS: usize = 6;
 
-const QUEUED: usize = 7;
+pub const QUEUED: usize = 7;
 
 // The instruments' records: where the SecurityIDs and the reasons start, and how far apart they stand.
 pub const IDS: usize = 32;
@@ -48,6 +56,21 @@ pub const QUEUE_SIZE: usize = 2816;
 
 // The books and the queue are one run.
 const BOOKS_AND_QUEUE: usize = 6912;
+
+// 48: 18 digits.
+pub const MOST_ID: u64 = 999999999999999999;
+
+// Answers of document 01 that several calls give: done; the store is under 7,168 numbers or unsound; an argument is outside its
+// range; the instrument is not followed; it is Waiting.
+pub const DONE: u64 = 0;
+
+pub const BAD_STORE: u64 = 17;
+
+pub const BAD_ARGUMENT: u64 = 18;
+
+pub const NOT_FOLLOWED: u64 = 20;
+
+pub const WAITING: u64 = 21;
 
 // What a call answers, by document 01's number, and the heading that goes with the store it leaves.
 pub struct Fed {
