@@ -1,0 +1,251 @@
+// bench time DICTIONARY ROUNDS: the time of one call, the proved code beside QuickFIX on the same bytes in the same run.
+// bench count DICTIONARY [FEW]: the same calls once each, for callgrind to count their instructions; with FEW, of few cases.
+// `time` writes a table of tab-separated columns; a call of `count` is named in callgrind's own file by the same columns.
+#include <algorithm>
+#include <cstdio>
+#include <cstdlib>
+#include <functional>
+#include <time.h>
+#include <valgrind/callgrind.h>
+
+#include "peer.hpp"
+#include "same.hpp"
+#include "selkavorn.h"
+#include "streams.hpp"
+
+namespace {
+
+constexpr int WARM_UP = 5; // rounds
+constexpr int ENTRIES_A_ROUND = 1024;
+constexpr int QUEUE = 256;         // entries that fill the queue
+constexpr int CALLS_A_ROUND = 256; // of a call that takes no stream
+
+using Store = std::vector<uint64_t>;
+
+[[noreturn]] void fail(const std::string &what) {
+    std::fprintf(stderr, "bench: %s\n", what.c_str());
+    std::exit(1);
+}
+
+const uint8_t *bytes(const std::string &text) { return reinterpret_cast<const uint8_t *>(text.data()); }
+
+uint64_t feed(Store &store, const std::string &message) {
+    return selkavorn_feed(store.data(), store.size(), bytes(message), message.size());
+}
+
+// A case: a depth kind, how many entries a message has, and how many instruments wait.
+struct Case {
+    Depth depth;
+    int entries;
+    int waiting;
+};
+
+// What a case starts from: the stream, a store and a board whose books are full. Where one waits, the stream fills the queue.
+struct Start {
+    Stream stream;
+    Store store = Store(SELKAVORN_STORE_NUMBERS);
+    PeerBoard board;
+};
+
+void open(Store &store, Depth depth, const Stream &stream) {
+    if (selkavorn_open(store.data(), store.size(), depth, stream.ids.data(), stream.ids.size()) != SELKAVORN_DONE)
+        fail("the store is not opened");
+}
+
+void take(Store &store, const std::string &snapshot) {
+    if (SELKAVORN_ANSWER(feed(store, snapshot)) != SELKAVORN_TAKEN) fail("a snapshot is not taken");
+}
+
+Start start(const Case &c, const FIX::DataDictionary &dictionary) {
+    Start s;
+    s.stream = make_stream(c.depth, (c.waiting ? QUEUE : ENTRIES_A_ROUND) / c.entries, c.entries);
+    open(s.store, c.depth, s.stream);
+    for (int i = 0; i < INSTRUMENTS; i++) {
+        s.board.books.push_back(PeerBook());
+        s.board.books.back().id = s.stream.ids[i];
+        if (!peer_apply(dictionary, s.stream.snapshots[i], s.board)) fail("QuickFIX refuses a snapshot");
+        if (i < INSTRUMENTS - c.waiting) take(s.store, s.stream.snapshots[i]);
+    }
+    return s;
+}
+
+// Something to measure: makes ready for a round, does the round's calls, and says whether all went well.
+struct Measured {
+    std::string what; // as the columns of the table have it
+    size_t calls;
+    std::function<void()> ready;
+    std::function<bool()> round;
+    std::vector<double> ns; // a call, by round
+};
+
+// Measures the rounds of all in turn, in one way or another.
+using Measure = std::function<void(std::vector<Measured> &)>;
+
+// One call for each message.
+template <typename Call> std::function<bool()> for_each(const std::vector<std::string> &messages, Call call) {
+    return [&messages, call] {
+        bool good = true;
+        for (const std::string &message : messages) good &= call(message);
+        return good;
+    };
+}
+
+// The same call again and again.
+template <typename Call> std::function<bool()> again(Call call) {
+    return [call] {
+        bool good = true;
+        for (int i = 0; i < CALLS_A_ROUND; i++) good &= call();
+        return good;
+    };
+}
+
+std::string columns(const Case &c, size_t length, const char *what) {
+    return std::string(c.depth == ORDER_DEPTH ? "order" : "price") + "\t" + std::to_string(c.entries) + "\t" +
+           std::to_string(c.waiting) + "\t" + std::to_string(length) + "\t" + what;
+}
+
+size_t mean_length(const std::vector<std::string> &messages) {
+    size_t length = 0;
+    for (const std::string &message : messages) length += message.size();
+    return length / messages.size();
+}
+
+// A full book that waited is set by its snapshot, and the queue applied to it; then both sides must hold the same books.
+void check_books(const Case &c, const Start &s, Store store, const PeerBoard &board) {
+    for (int i = INSTRUMENTS - c.waiting; i < INSTRUMENTS; i++) take(store, s.stream.snapshots[i]);
+    std::string differs = difference(store, board, c.depth);
+    if (differs.empty()) return;
+    fail("the two sides hold different books after messages of " + std::to_string(c.entries) + " entries at depth " +
+         std::to_string(c.depth) + ", " + std::to_string(c.waiting) + " waiting: instrument " + differs);
+}
+
+// Feeding, the scan, and QuickFIX. The scan is the feeding of no bytes: every call of the library scans the store before all
+// else, and then there is nothing left to read.
+void measure_case(const Case &c, const FIX::DataDictionary &dictionary, const Measure &measure) {
+    const Start s = start(c, dictionary);
+    const std::vector<std::string> &xs = s.stream.changes;
+    const size_t length = mean_length(xs);
+    const uint64_t waiting = 256u * static_cast<unsigned>(c.waiting);
+    Store store, scanned = s.store;
+    PeerBoard board;
+    if (c.waiting)
+        for (const std::string &x : xs) feed(scanned, x);
+    auto nothing = [] {};
+    std::vector<Measured> all = {
+        {columns(c, length, "feed"), xs.size(), [&] { store = s.store; },
+         for_each(xs, [&](const std::string &x) { return feed(store, x) == SELKAVORN_DONE + waiting; }), {}},
+        {columns(c, length, "scan"), CALLS_A_ROUND, nothing,
+         again([&] { return selkavorn_feed(scanned.data(), scanned.size(), nullptr, 0) == SELKAVORN_FRAME + waiting; }), {}},
+        {columns(c, length, "parse"), xs.size(), nothing,
+         for_each(xs, [&](const std::string &x) { return peer_parse(dictionary, x); }), {}},
+        {columns(c, length, "validate"), xs.size(), nothing,
+         for_each(xs, [&](const std::string &x) { return peer_validate(dictionary, x); }), {}},
+        {columns(c, length, "book"), xs.size(), [&] { board = s.board; },
+         for_each(xs, [&](const std::string &x) { return peer_apply(dictionary, x, board); }), {}},
+    };
+    measure(all);
+    check_books(c, s, store, board);
+}
+
+bool quote(const Store &store, uint64_t id) {
+    static const std::string now = "20250103-14:00:00.000";
+    uint64_t numbers[SELKAVORN_QUOTE_NUMBERS];
+    return selkavorn_quote(store.data(), store.size(), id, bytes(now), now.size(), SELKAVORN_LONGEST_LIMIT_S, numbers,
+                           SELKAVORN_QUOTE_NUMBERS) == SELKAVORN_DONE;
+}
+
+bool write(const Store &store, uint64_t id) {
+    static const std::string now = "20250103-14:00:00.000", name = "HUT";
+    uint8_t out[SELKAVORN_LONGEST_WRITING];
+    return SELKAVORN_ANSWER(selkavorn_write(store.data(), store.size(), id, bytes(name), name.size(), bytes(name), name.size(), 1, 1,
+                                            bytes(now), now.size(), out, sizeof out)) == SELKAVORN_DONE;
+}
+
+bool state(const Store &store, uint64_t id) {
+    uint64_t numbers[SELKAVORN_STATE_NUMBERS];
+    return selkavorn_state(store.data(), store.size(), id, numbers, SELKAVORN_STATE_NUMBERS) == SELKAVORN_DONE;
+}
+
+// The other calls, on full books. A snapshot sets a book of 40 places.
+void measure_others(Depth depth, const FIX::DataDictionary &dictionary, const Measure &measure) {
+    const Case c = {depth, 0, 0};
+    Start s = start({depth, 1, 0}, dictionary);
+    for (const std::string &x : s.stream.changes) feed(s.store, x);
+    const std::vector<std::string> &ws = s.stream.snapshots;
+    const uint64_t *ids = s.stream.ids.data(), id = ids[0];
+    Store opened(SELKAVORN_STORE_NUMBERS), store;
+    open(opened, depth, s.stream);
+    auto nothing = [] {};
+    auto reopen = [&] { return selkavorn_open(store.data(), store.size(), depth, ids, INSTRUMENTS) == SELKAVORN_DONE; };
+    std::vector<Measured> all = {
+        {columns(c, 0, "open"), CALLS_A_ROUND, [&] { store = opened; }, again(reopen), {}},
+        {columns(c, mean_length(ws), "snapshot"), ws.size(), [&] { store = opened; },
+         for_each(ws, [&](const std::string &w) { return SELKAVORN_ANSWER(feed(store, w)) == SELKAVORN_TAKEN; }), {}},
+        {columns(c, 0, "quote"), CALLS_A_ROUND, nothing, again([&] { return quote(s.store, id); }), {}},
+        {columns(c, 0, "write"), CALLS_A_ROUND, nothing, again([&] { return write(s.store, id); }), {}},
+        {columns(c, 0, "state"), CALLS_A_ROUND, nothing, again([&] { return state(s.store, id); }), {}},
+    };
+    measure(all);
+}
+
+void do_round(Measured &m) {
+    if (!m.round()) fail("a call went wrong: " + m.what);
+}
+
+// Nanoseconds of the processor that this thread has had: what other programs take does not count.
+double thread_ns() {
+    timespec t;
+    clock_gettime(CLOCK_THREAD_CPUTIME_ID, &t);
+    return static_cast<double>(t.tv_sec) * 1e9 + static_cast<double>(t.tv_nsec);
+}
+
+// Times the rounds in turn, so that what else the machine does falls on all alike. Prints the median and the quartiles.
+void time_all(std::vector<Measured> &all, int rounds) {
+    for (int round = -WARM_UP; round < rounds; round++)
+        for (Measured &m : all) {
+            m.ready();
+            double from = thread_ns();
+            do_round(m);
+            double to = thread_ns();
+            if (round >= 0) m.ns.push_back((to - from) / static_cast<double>(m.calls));
+        }
+    for (Measured &m : all) {
+        std::sort(m.ns.begin(), m.ns.end());
+        size_t n = m.ns.size();
+        std::printf("%s\t%.1f\t%.1f\t%.1f\n", m.what.c_str(), m.ns[n / 2], m.ns[n / 4], m.ns[n - 1 - n / 4]);
+    }
+    std::fflush(stdout);
+}
+
+// One round to warm up, one that callgrind counts.
+void count_all(std::vector<Measured> &all) {
+    for (Measured &m : all) {
+        m.ready();
+        do_round(m);
+        m.ready();
+        CALLGRIND_TOGGLE_COLLECT;
+        do_round(m);
+        CALLGRIND_TOGGLE_COLLECT;
+        std::string label = m.what + "\t" + std::to_string(m.calls);
+        CALLGRIND_DUMP_STATS_AT(label.c_str());
+    }
+}
+
+} // namespace
+
+int main(int argc, char **argv) {
+    const std::string how = argc > 1 ? argv[1] : "";
+    const int rounds = how == "time" && argc == 4 ? std::atoi(argv[3]) : 0;
+    const bool count = how == "count" && (argc == 3 || argc == 4), few = argc == 4;
+    if (rounds <= 0 && !count) fail("usage: bench time DICTIONARY ROUNDS, or bench count DICTIONARY [FEW]");
+    const Measure measure = [&](std::vector<Measured> &all) { count ? count_all(all) : time_all(all, rounds); };
+    FIX::DataDictionary dictionary(argv[2]);
+    if (count && few) {
+        for (int entries : {1, 10}) measure_case({ORDER_DEPTH, entries, 0}, dictionary, measure);
+        return 0;
+    }
+    for (int waiting : {0, 1})
+        for (Depth depth : {ORDER_DEPTH, PRICE_DEPTH})
+            for (int entries : {1, 4, 10, 64}) measure_case({depth, entries, waiting}, dictionary, measure);
+    for (Depth depth : {ORDER_DEPTH, PRICE_DEPTH}) measure_others(depth, dictionary, measure);
+}

@@ -1,0 +1,191 @@
+/* stack: how deep each exported call goes on the stack. A call runs on a lent stack that is filled with a pattern; the deepest
+ * byte that it overwrote says how far it went. The depth counts from the frame of the function that calls: the few bytes of the
+ * call itself and what the C library's memcpy and memset need are included. Writes a table of tab-separated columns: the
+ * function, the call, its answer, its depth in bytes. */
+#define _GNU_SOURCE
+#include <stdarg.h>
+#include <stdint.h>
+#include <stdio.h>
+#include <stdlib.h>
+#include <string.h>
+#include <ucontext.h>
+
+#include "selkavorn.h"
+
+#define STACK_BYTES (1 << 18)
+#define PATTERN 0xA5
+#define NOW "20250103-13:00:00.000"
+#define FIRST_ID 7
+#define MOST_ENTRIES 64
+
+static uint8_t lent[STACK_BYTES] __attribute__((aligned(64)));
+static uint64_t store[SELKAVORN_STORE_NUMBERS], ids[SELKAVORN_MOST_INSTRUMENTS], numbers[SELKAVORN_QUOTE_NUMBERS];
+static uint8_t out[SELKAVORN_LONGEST_WRITING];
+static ucontext_t here, there;
+
+/* What the call on the lent stack takes and answers. */
+static char message[SELKAVORN_LONGEST_MESSAGE + 64];
+static size_t message_bytes, followed, out_bytes = sizeof out;
+static const char *now = NOW;
+static uint64_t answered;
+
+static void open_store(void) { answered = selkavorn_open(store, SELKAVORN_STORE_NUMBERS, SELKAVORN_ORDER_DEPTH, ids, followed); }
+
+static void feed(void) { answered = selkavorn_feed(store, SELKAVORN_STORE_NUMBERS, (const uint8_t *)message, message_bytes); }
+
+static void quote(void)
+{
+    answered = selkavorn_quote(store, SELKAVORN_STORE_NUMBERS, FIRST_ID, (const uint8_t *)now, strlen(now), 30, numbers,
+                               SELKAVORN_QUOTE_NUMBERS);
+}
+
+static void write_book(void)
+{
+    static const uint8_t name[] = "ABCDEFGHIJKLMNOP"; /* 16 bytes */
+    answered = selkavorn_write(store, SELKAVORN_STORE_NUMBERS, FIRST_ID, name, 16, name, 16, 16, 16, (const uint8_t *)now,
+                               strlen(now), out, out_bytes);
+}
+
+static void state(void) { answered = selkavorn_state(store, SELKAVORN_STORE_NUMBERS, FIRST_ID, numbers, SELKAVORN_QUOTE_NUMBERS); }
+
+static void (*call)(void);
+static volatile uintptr_t caller;
+
+static void on_lent_stack(void)
+{
+    caller = (uintptr_t)__builtin_frame_address(0);
+    call();
+    caller = (uintptr_t)__builtin_frame_address(0); /* so that the call above is no jump */
+}
+
+/* Makes one call on the lent stack and prints how deep it went; the program ends where its answer is another. */
+static void show(const char *function, void (*made)(void), const char *what, uint64_t answer)
+{
+    memset(lent, PATTERN, sizeof lent);
+    call = made;
+    getcontext(&there);
+    there.uc_stack.ss_sp = lent;
+    there.uc_stack.ss_size = sizeof lent;
+    there.uc_link = &here;
+    makecontext(&there, on_lent_stack, 0);
+    swapcontext(&here, &there);
+    if (SELKAVORN_ANSWER(answered) != answer) {
+        fprintf(stderr, "stack: %s, %s: answer %d, not %d\n", function, what, (int)SELKAVORN_ANSWER(answered), (int)answer);
+        exit(1);
+    }
+    size_t untouched = 0;
+    while (untouched < sizeof lent && lent[untouched] == PATTERN) untouched++;
+    printf("%s\t%s\t%d\t%zu\n", function, what, (int)answer, (size_t)(caller - (uintptr_t)(lent + untouched)));
+}
+
+static char fields[SELKAVORN_LONGEST_MESSAGE];
+
+/* Adds to the fields of the next message, which are written with | for SOH. */
+static void say(const char *format, ...)
+{
+    size_t n = strlen(fields);
+    va_list values;
+    va_start(values, format);
+    vsnprintf(fields + n, sizeof fields - n, format, values);
+    va_end(values);
+}
+
+static void say_values(int place)
+{
+    say("270=-24.01|271=5|37=ABCDEFGHIJKLMNOP|272=20250103|273=13:00:00.000|290=%d|", place);
+}
+
+/* An X of entries with this action, each at the place above the last one's, or all at place 1. */
+static void say_x(int number, int entries, int action, int above)
+{
+    say("35=X|34=%d|52=" NOW "|268=%d|", number, entries);
+    for (int i = 0; i < entries; i++) {
+        say("279=%d|269=%d|48=%d|22=8|", action, i % 2, FIRST_ID);
+        say_values(above ? 1 + i / 2 : 1);
+    }
+}
+
+/* A W of 20 bids and 20 offers. */
+static void say_w(int s)
+{
+    say("35=W|34=1|52=" NOW "|48=%d|22=8|207=BVMF|369=%d|911=1|268=%d|", FIRST_ID, s, 2 * SELKAVORN_MOST_PLACES);
+    for (int i = 0; i < 2 * SELKAVORN_MOST_PLACES; i++) {
+        say("269=%d|", i / SELKAVORN_MOST_PLACES);
+        say_values(1 + i % SELKAVORN_MOST_PLACES);
+    }
+}
+
+/* Feeds what was said, with `more` added to its sum. */
+static void show_feed(const char *what, uint64_t answer, unsigned more)
+{
+    size_t n = (size_t)sprintf(message, "8=FIX.4.4|9=%zu|%s", strlen(fields), fields);
+    unsigned sum = more;
+    for (size_t i = 0; i < n; i++) {
+        if (message[i] == '|') message[i] = 1;
+        sum += (uint8_t)message[i];
+    }
+    message_bytes = n + (size_t)sprintf(message + n, "10=%03u\1", sum % 256);
+    fields[0] = 0;
+    show("feed", feed, what, answer);
+}
+
+/* A store of one instrument: it goes Live, so that none waits, and breaks. */
+static void show_one_followed(void)
+{
+    followed = 1;
+    show("open", open_store, "1 instrument", SELKAVORN_DONE);
+    message_bytes = 0;
+    show("feed", feed, "no bytes", SELKAVORN_FRAME);
+    say_w(0);
+    show_feed("a snapshot of 40", SELKAVORN_TAKEN, 0);
+    say_x(1, 1, 1, 0);
+    show_feed("an X of 1", SELKAVORN_DONE, 0);
+    say_x(2, MOST_ENTRIES, 1, 0);
+    show_feed("an X of 64", SELKAVORN_DONE, 0);
+    show("quote", quote, "done", SELKAVORN_DONE);
+    show("write", write_book, "40 places", SELKAVORN_DONE);
+    show("state", state, "done", SELKAVORN_DONE);
+    say_x(3, MOST_ENTRIES, 0, 0);
+    show_feed("an X of 64 that breaks", SELKAVORN_DONE, 0);
+    say_x(2, MOST_ENTRIES, 1, 0);
+    show_feed("an old X of 64", SELKAVORN_OLD, 0);
+    say_x(4, MOST_ENTRIES, 1, 0);
+    show_feed("a wrong checksum", SELKAVORN_CHECKSUM, 1);
+    say("35=0|34=4|52=" NOW "|");
+    show_feed("a heartbeat", SELKAVORN_DONE, 0);
+}
+
+/* A store of 16, of which one goes Live: the queue is filled, replayed and let go. */
+static void show_all_followed(void)
+{
+    followed = SELKAVORN_MOST_INSTRUMENTS;
+    show("open", open_store, "16 instruments", SELKAVORN_DONE);
+    say_x(9, MOST_ENTRIES, 1, 0);
+    show_feed("a gap with an X of 64", SELKAVORN_GAP, 0);
+    say_w(8);
+    show_feed("a snapshot with a replay of 64", SELKAVORN_TAKEN, 0);
+    for (int number = 10; number <= 12; number++) {
+        say_x(number, MOST_ENTRIES, 1, 0);
+        show_feed("an X of 64 that joins the queue", SELKAVORN_DONE, 0);
+    }
+    show("write", write_book, "40 places, others waiting", SELKAVORN_DONE);
+    out_bytes = SELKAVORN_LONGEST_WRITING / 2;
+    show("write", write_book, "an output too short", SELKAVORN_OUTPUT);
+    now = "20250103-13:00:30.001";
+    show("quote", quote, "too old", SELKAVORN_AGE_ABOVE);
+    say_x(13, MOST_ENTRIES, 1, 0);
+    show_feed("an X of 64 that lets the queue go", SELKAVORN_LET_GO, 0);
+    say_x(15, MOST_ENTRIES, 0, 1);
+    show_feed("a gap with an X of 64 news", SELKAVORN_GAP, 0);
+    say_w(14);
+    show_feed("a snapshot whose replay breaks", SELKAVORN_REPLAY_BROKE, 0);
+    show("state", state, "Waiting", SELKAVORN_DONE);
+}
+
+int main(void)
+{
+    for (uint64_t i = 0; i < SELKAVORN_MOST_INSTRUMENTS; i++) ids[i] = FIRST_ID + i;
+    show_one_followed();
+    show_all_followed();
+    return 0;
+}

@@ -1,0 +1,26 @@
+// Streams of messages to measure with: snapshots that fill every book, then changes that keep them full.
+#pragma once
+#include <cstdint>
+#include <string>
+#include <vector>
+
+constexpr int INSTRUMENTS = 16;
+constexpr int PLACES = 20;
+
+enum Depth { ORDER_DEPTH = 0, PRICE_DEPTH = 1 };
+
+struct Stream {
+    std::vector<uint64_t> ids;          // the SecurityIDs followed
+    std::vector<std::string> snapshots; // a W of 20 bids and 20 offers for each, with 369 = 0
+    std::vector<std::string> changes;   // X, numbered from 1
+};
+
+// A field of a message, its SOH included.
+std::string field(int tag, const std::string &value);
+
+// A whole message, from its type and the fields behind it: 8, 9 and 10 are added.
+std::string message(char type, const std::string &fields);
+
+// `messages` X of `entries` entries each. Instruments, sides and places are drawn evenly. At a side of 20 places an entry is a
+// change or a delete, at one of 19 a change or a new, each as often as the other, so that sides hold 19 or 20.
+Stream make_stream(Depth depth, int messages, int entries);
