@@ -6,14 +6,13 @@ use message::Reading;
 use message::Verdict;
 use store::Fed;
 ghost use mathlib.Core.Path.{_≡_};
-ghost use Prim.Native.Nat.{_*_, _≤_};
-ghost use lib.ListN.{length, take};
-ghost use Rattle.cells.specs.Runs.{updateSize, updatesIn};
+ghost use Prim.Native.Nat.{_≤_};
+ghost use lib.ListN.{length};
 ghost use Rattle.board.specs.Count.{aimed};
 ghost use Rattle.store.specs.Layout.{storeSize};
 ghost use Rattle.store.specs.Meaning.{st, boardIn};
 ghost use Rattle.store.specs.Canon.{Canon};
-ghost use Rattle.channel.specs.Feeds.{said, aimedAt, Feeds};
+ghost use Rattle.channel.specs.Feeds.{said, Feeds};
 
 // The numbers of 64 updates.
 const RUN: usize = 576;
@@ -43,29 +42,21 @@ fn aim(store: &[u64], h: Heading, u: Update) -> Update
     }
 }
 
-// The entries of a message as a run of numbers, each aimed.
-fn spread(store: &[u64], h: Heading, us: [Update; 64], count: usize, run: &mut [u64])
-    requires { ⌜ (storeSize ≤ length (now store)) × (h .followed ≤ 16) × (count ≤ 64) × (count * updateSize ≤ length (now run)) ⌝ }
-    ensures { λ _. ⌜ updatesIn (now (run .exit)) count ≡ aimedAt (st h (now (store .entry))) (take count us) ⌝ }
-{
-    let mut i = 0usize;
-    while i < count {
-        let u = us[i];
-        let v = aim(store, h, u);
-        cells::save_update(run, i * cells::UPDATE, v);
-        i += 1;
-    }
-}
-
-// The message that a reading says, on the board that the heading and the store are.
+// The message that a reading says, on the board that the heading and the store are. Its entries are written as a run of
+// numbers, each aimed, from where they stand in the reading.
 pub fn feed_read(store: &mut [u64], h: Heading, r: Reading) -> Fed
     requires { ⌜ Canon (st h (now store)) × (r .count ≤ 64) ⌝ }
     ensures { λ f. ⌜ Feeds (said r) (st h (now (store .entry))) (f .answer) (st (f .head) (now (store .exit))) ⌝ }
 {
-    let us = r.updates;
     let count = r.count;
     let mut run = [0u64; RUN];
-    spread(store, h, us, count, &mut run);
+    let mut i = 0usize;
+    while i < count {
+        let u = r.updates[i];
+        let v = aim(store, h, u);
+        cells::save_update(&mut run, i * cells::UPDATE, v);
+        i += 1;
+    }
     let v = r.verdict;
     match v {
         Verdict::Numbered => count::number(store, h, r.number, r.heard, &run, count),

@@ -1,5 +1,6 @@
 pub mod Padding
 pub mod Grouping
 pub mod Listing
+pub mod Leading
 pub mod Positions
 pub mod Bodies

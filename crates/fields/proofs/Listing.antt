@@ -11,6 +11,8 @@ use lib.Dec.{ltb, leb, eqb}
 use lib.ListN.{length, getD, set, replicate, length-append, getD-replicate}
 use Rattle.book.specs.declared.Update.{Update}
 use Rattle.message.specs.Message.{noUpdate, padded}
+use Rattle.message.specs.declared.Reading.{Reading}
+use Rattle.message.specs.declared.Verdict.{Verdict}
 use Rattle.frame.specs.Fields.{Field, field}
 use Rattle.frame.specs.Places.{part, fieldAt, left}
 use Rattle.frame.specs.declared.Step.{Step}
@@ -25,7 +27,7 @@ use Rattle.tags.proofs.Walking.{unseen}
 use Rattle.entries.specs.Values.{_>>=_, Values}
 use Rattle.entries.proofs.Same.{x-same, w-same}
 use Rattle.fields.specs.Messages.{nextAfter, firsts}
-use Rattle.fields.specs.Groups.{entryIn, entryNext, Fair, grouped, answered}
+use Rattle.fields.specs.Groups.{bareOf, entryIn, entryNext, Fair, grouped, answered}
 use Rattle.fields.specs.declared.Next.{Next}
 use Rattle.fields.specs.declared.Top.{Top}
 use Rattle.fields.proofs.Padding.{padded-none, padded-length, padded-more}
@@ -96,7 +98,7 @@ pub kept-length : (us : List Update) (n : ℕ) (next : Next) (more : ℕ) → Ke
 kept-length us n next more k = ap length (k .items) ∙ padded-length 64 (k .said)
 
 -- the reading that it makes
-pub kept-answer : (t : Top) (us : List Update) (n : ℕ) (next : Next) (more : ℕ) (k : Kept us n next more)
+kept-answer : (t : Top) (us : List Update) (n : ℕ) (next : Next) (more : ℕ) (k : Kept us n next more)
     → record {
       verdict = t .verdict;
       number = t .number;
@@ -109,6 +111,75 @@ pub kept-answer : (t : Top) (us : List Update) (n : ℕ) (next : Next) (more : �
     } ≡ answered t (some (k .said))
 unfolding answered
 kept-answer t us n next more k = rw (k .size, k .items)
+
+-- what stands before the group is in the reading from the start
+pub record Heads (t : Top) (r : Reading) : Type 0 where
+  pub verdict : r .verdict ≡ t .verdict
+  pub number : r .number ≡ t .number
+  pub heard : r .heard ≡ t .heard
+  pub id : r .id ≡ t .id
+  pub last : r .last ≡ t .last
+  pub loops : r .loops ≡ t .loops
+
+pub bare-items : (r : Reading) (v : Verdict) (n heard : ℕ) → r ≡ bareOf v n heard → r .updates ≡ replicate 64 noUpdate
+unfolding bareOf
+bare-items r v n heard e = ap (λ (r : Reading). r .updates) e ∙ padded-none 64
+
+pub heads-start : (t : Top) (r : Reading) → r ≡ bareOf (t .verdict) (t .number) (t .heard)
+    → Heads t (record {
+      verdict = r .verdict;
+      number = r .number;
+      heard = r .heard;
+      id = t .id;
+      last = t .last;
+      loops = t .loops;
+      count = r .count;
+      updates = r .updates;
+    })
+unfolding bareOf
+heads-start t r e =
+    record {
+      verdict = ap (λ (r : Reading). r .verdict) e;
+      number = ap (λ (r : Reading). r .number) e;
+      heard = ap (λ (r : Reading). r .heard) e;
+      id = refl;
+      last = refl;
+      loops = refl;
+    }
+
+-- and stays there
+pub heads-set : {t : Top} {r : Reading} (us : List Update) → Heads t r
+    → Heads t (record {
+      verdict = r .verdict;
+      number = r .number;
+      heard = r .heard;
+      id = r .id;
+      last = r .last;
+      loops = r .loops;
+      count = r .count;
+      updates = us;
+    })
+heads-set us h =
+    record { verdict = h .verdict; number = h .number; heard = h .heard; id = h .id; last = h .last; loops = h .loops }
+
+same-reading : {v w : Verdict} {a b c d e f g h i j : ℕ} (n : ℕ) (us : List Update) → v ≡ w → a ≡ b → c ≡ d → e ≡ f → g ≡ h → i ≡ j
+    → _≡_ {A = Reading} (record { verdict = v; number = a; heard = c; id = e; last = g; loops = i; count = n; updates = us })
+    (record { verdict = w; number = b; heard = d; id = f; last = h; loops = j; count = n; updates = us })
+same-reading n us p q r s t u = cc
+
+pub heads-answer : (t : Top) (r : Reading) (n : ℕ) (next : Next) (more : ℕ) (k : Kept (r .updates) n next more) → Heads t r
+    → record {
+      verdict = r .verdict;
+      number = r .number;
+      heard = r .heard;
+      id = r .id;
+      last = r .last;
+      loops = r .loops;
+      count = n;
+      updates = r .updates;
+    } ≡ answered t (some (k .said))
+heads-answer t r n next more k h =
+    same-reading n (r .updates) (h .verdict) (h .number) (h .heard) (h .id) (h .last) (h .loops) ∙ kept-answer t (r .updates) n next more k
 
 -- ---- where the walk has ended, and whether all is good
 pub record Ended (good : Bool) (o : Option (List Update)) (us : List Update) : Type 0 where

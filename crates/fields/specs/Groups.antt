@@ -1,5 +1,5 @@
 -- The group of an X or a W as the code reads it, once what stands before it is known. Assumes nothing.
-use Prim.Native.Nat.{ℕ}
+use Prim.Native.Nat.{ℕ, _≤_}
 use mathlib.Core.Path.{_≡_}
 use mathlib.Core.List.{List, [], _∷_}
 use mathlib.Core.Bool.{Bool, true, false, cond, _&&_, _||_}
@@ -14,10 +14,13 @@ use Rattle.message.specs.declared.Reading.{Reading}
 use Rattle.digits.specs.Digits.{rangedOf}
 use Rattle.frame.specs.Fields.{Field}
 use Rattle.tags.specs.Tags.{namedTags, has, tidy, allTidy, upTo, parts}
-use Rattle.tags.specs.Slots.{between}
+use Rattle.frame.specs.Places.{part, left}
+use Rattle.tags.specs.Slots.{between, Chained}
 use Rattle.entries.specs.Values.{_>>=_, need, Values, number, seqAt, heardAt, instrumentAt, lastAt, loopsAt}
 use Rattle.entries.specs.Entries.{entryInX, entryInW}
-use Rattle.fields.specs.Messages.{each, running, nextOn, firsts}
+use Rattle.fields.specs.Messages.{each, running, nextOn, firsts, messageIn}
+use Rattle.fields.specs.declared.Found.{Found}
+use Rattle.fields.specs.declared.Lead.{Lead}
 use Rattle.fields.specs.declared.Next.{Next}
 use Rattle.fields.specs.declared.Top.{Top}
 use Rattle.fields.specs.declared.Topped.{Topped}
@@ -91,3 +94,17 @@ answered t (some us) =
       count = length us;
       updates = padded 64 us;
     }
+
+-- What leads to the entries of fields: they start at a place of the chain, 268 says at most 64, and what they give, on a
+-- channel of each depth kind, is f.
+pub record Leads (s : List ℕ) (l : Lead) (f : ℕ → Reading) : Type 0 where
+  pub chained : Chained s (l .at)
+  pub fair : Fair (l .top)
+  pub few : l .count ≤ 64
+  pub says : (depth : ℕ) → answered (l .top) (grouped depth (l .top) (l .count) (left s (l .at))) ≡ f depth
+
+-- The fields of a message, and what leads to its entries.
+pub record Finds (s : List ℕ) (r : Found) : Type 0 where
+  pub start : r .from ≤ r .end
+  pub inside : r .end ≤ length s
+  pub leads : Leads (part (r .from) (r .end) s) (r .lead) (λ depth. told (messageIn depth s))

@@ -8,7 +8,7 @@ ghost use Rattle.frame.specs.Places.{left};
 ghost use Rattle.tags.specs.Slots.{marked, Chained};
 ghost use Rattle.entries.specs.Entries.{said};
 ghost use Rattle.fields.specs.Messages.{nextOn, nextAfter, otherOf, changesOf, snapshotOf, orBadFields, typedAs, messageIn};
-ghost use Rattle.fields.specs.Groups.{bareOf, topX, topW, topped, entryNext, Fair, grouped, counted, answered};
+ghost use Rattle.fields.specs.Groups.{bareOf, topX, topW, topped, entryNext, Fair, grouped, counted, answered, Leads, Finds};
 use book::Update;
 use digits::Number;
 use entries::Said;
@@ -58,6 +58,21 @@ pub struct Top {
     pub id: u64,
     pub last: u64,
     pub loops: u64,
+}
+
+// What leads to the entries: what stands before them, the place where they start, and what 268 says. Where there is no
+// group, they start at the end and 268 is 0.
+pub struct Lead {
+    pub top: Top,
+    pub at: usize,
+    pub count: u64,
+}
+
+// The fields of a message as from..end of its bytes, and what leads to its entries.
+pub struct Found {
+    pub lead: Lead,
+    pub from: usize,
+    pub end: usize,
 }
 
 pub enum Topped {
@@ -208,8 +223,11 @@ fn listed(s: &[u8], start: usize, count: u64, depth: u64, t: Top) -> Reading
     let end = s.len();
     let first = t.first;
     let low = t.low;
-    let none = no_update();
-    let mut us = [none; 64];
+    let verdict = t.verdict;
+    let mut r = bare(verdict, t.number, t.heard);
+    r.id = t.id;
+    r.last = t.last;
+    r.loops = t.loops;
     let mut n: usize = 0;
     let mut next = Next { bid: 1, offer: 1 };
     let mut more = count;
@@ -264,122 +282,169 @@ fn listed(s: &[u8], start: usize, count: u64, depth: u64, t: Top) -> Reading
             Said::Bad => break 'entries,
             Said::Passed => continue 'entries,
             Said::Is(u) => {
-                us[n] = u;
+                r.updates[n] = u;
                 n += 1;
                 next = next_after(next, u.what);
             }
         }
     }
+    r.count = n;
     if !good {
-        return bare(Verdict::BadFields, 0, 0);
+        r = bare(Verdict::BadFields, 0, 0);
     }
-    let verdict = t.verdict;
-    Reading {
+    r
+}
+
+// A message without a group.
+fn alone(s: &[u8], verdict: Verdict, number: u64, heard: u64) -> Lead
+    ensures { λ r. ⌜ Leads (now (s .entry)) r (λ depth. bareOf verdict number heard) ⌝ }
+{
+    let top = Top {
         verdict,
-        number: t.number,
-        heard: t.heard,
-        id: t.id,
-        last: t.last,
-        loops: t.loops,
-        count: n,
-        updates: us,
+        first: FIRST_X,
+        low: ENTRY_X,
+        number,
+        heard,
+        id: 0,
+        last: 0,
+        loops: 0,
+    };
+    Lead {
+        top,
+        at: s.len(),
+        count: 0,
     }
 }
 
 // The group from 268 on.
-fn group(s: &[u8], start: usize, depth: u64, t: Top) -> Reading
+fn group(s: &[u8], start: usize, t: Top) -> Lead
     requires { ⌜ Chained (now s) start × Fair t ⌝ }
-    ensures { λ r. ⌜ r ≡ answered t (counted depth t (left (now (s .entry)) start)) ⌝ }
+    ensures { λ r. ⌜ Leads (now (s .entry)) r (λ depth. answered t (counted depth t (left (now (s .entry)) start))) ⌝ }
 {
     if s.len() <= start {
-        return bare(Verdict::BadFields, 0, 0);
+        return alone(s, Verdict::BadFields, 0, 0);
     }
     let Step::Is { tag: _, from, to } = frame::field(s, start) else {
-        return bare(Verdict::BadFields, 0, 0);
+        return alone(s, Verdict::BadFields, 0, 0);
     };
     let Number::Is(count) = digits::ranged(&s[from..to], 2, 0, 64) else {
-        return bare(Verdict::BadFields, 0, 0);
+        return alone(s, Verdict::BadFields, 0, 0);
     };
-    listed(s, to + 1, count, depth, t)
+    let at = to + 1;
+    Lead { top: t, at, count }
 }
 
 // X.
-fn changes(s: &[u8], depth: u64) -> Reading
+fn changes(s: &[u8]) -> Lead
     requires { ⌜ Chained (now s) 0 ⌝ }
-    ensures { λ r. ⌜ r ≡ told (orBadFields (changesOf depth (left (now (s .entry)) 0))) ⌝ }
+    ensures { λ r. ⌜ Leads (now (s .entry)) r (λ depth. told (orBadFields (changesOf depth (left (now (s .entry)) 0)))) ⌝ }
 {
     let p = tags::walk(s, 0, COUNT_TAG, tags::NAMED, HEAD, HEAD_X_END);
     if !p.ok {
-        return bare(Verdict::BadFields, 0, 0);
+        return alone(s, Verdict::BadFields, 0, 0);
     }
     let m = p.marks;
     let Topped::Is(t) = top_x(s, m) else {
-        return bare(Verdict::BadFields, 0, 0);
+        return alone(s, Verdict::BadFields, 0, 0);
     };
-    group(s, p.at, depth, t)
+    group(s, p.at, t)
 }
 
 // W.
-fn snapshot(s: &[u8], depth: u64) -> Reading
+fn snapshot(s: &[u8]) -> Lead
     requires { ⌜ Chained (now s) 0 ⌝ }
-    ensures { λ r. ⌜ r ≡ told (orBadFields (snapshotOf depth (left (now (s .entry)) 0))) ⌝ }
+    ensures { λ r. ⌜ Leads (now (s .entry)) r (λ depth. told (orBadFields (snapshotOf depth (left (now (s .entry)) 0)))) ⌝ }
 {
     let p = tags::walk(s, 0, COUNT_TAG, tags::NAMED, HEAD, HEAD_W_END);
     if !p.ok {
-        return bare(Verdict::BadFields, 0, 0);
+        return alone(s, Verdict::BadFields, 0, 0);
     }
     let m = p.marks;
     let Topped::Is(t) = top_w(s, m) else {
-        return bare(Verdict::BadFields, 0, 0);
+        return alone(s, Verdict::BadFields, 0, 0);
     };
-    group(s, p.at, depth, t)
+    group(s, p.at, t)
 }
 
 // 0, f, y, B.
-fn other(s: &[u8]) -> Reading
+fn other(s: &[u8]) -> Lead
     requires { ⌜ Chained (now s) 0 ⌝ }
-    ensures { λ r. ⌜ r ≡ told (orBadFields (otherOf (left (now (s .entry)) 0))) ⌝ }
+    ensures { λ r. ⌜ Leads (now (s .entry)) r (λ depth. told (orBadFields (otherOf (left (now (s .entry)) 0)))) ⌝ }
 {
     let p = tags::walk(s, 0, COUNT_TAG, HEAD_X_END, HEAD, HEAD_X_END);
     if !p.ok {
-        return bare(Verdict::BadFields, 0, 0);
+        return alone(s, Verdict::BadFields, 0, 0);
     }
     let q = tags::walk(s, p.at, NO_TAG, HEAD_X_END, 0, 0);
     if !q.ok {
-        return bare(Verdict::BadFields, 0, 0);
+        return alone(s, Verdict::BadFields, 0, 0);
     }
     let m = p.marks;
     let Topped::Is(t) = top_x(s, m) else {
-        return bare(Verdict::BadFields, 0, 0);
+        return alone(s, Verdict::BadFields, 0, 0);
     };
-    bare(Verdict::Numbered, t.number, t.heard)
+    alone(s, Verdict::Numbered, t.number, t.heard)
 }
 
 // The fields between 35 and 10, by the type.
-fn typed(s: &[u8], kind: u8, depth: u64) -> Reading
+fn typed(s: &[u8], kind: u8) -> Lead
     requires { ⌜ Chained (now s) 0 ⌝ }
-    ensures { λ r. ⌜ r ≡ told (orBadFields (typedAs depth kind (left (now (s .entry)) 0))) ⌝ }
+    ensures { λ r. ⌜ Leads (now (s .entry)) r (λ depth. told (orBadFields (typedAs depth kind (left (now (s .entry)) 0)))) ⌝ }
 {
     if kind == b'X' {
-        return changes(s, depth);
+        return changes(s);
     }
     if kind == b'W' {
-        return snapshot(s, depth);
+        return snapshot(s);
     }
     other(s)
 }
 
-// The message that bytes are, on a channel of a depth kind.
+// What leads to the entries of a message.
+fn lead_of(s: &[u8]) -> Found
+    ensures { λ r. ⌜ Finds (now (s .entry)) r ⌝ }
+{
+    match frame::frame(s) {
+        Framed::BadFrame => {
+            let none = alone(&s[0..0], Verdict::BadFrame, 0, 0);
+            Found {
+                lead: none,
+                from: 0,
+                end: 0,
+            }
+        }
+        Framed::BadSum => {
+            let none = alone(&s[0..0], Verdict::BadSum, 0, 0);
+            Found {
+                lead: none,
+                from: 0,
+                end: 0,
+            }
+        }
+        Framed::BadType => {
+            let none = alone(&s[0..0], Verdict::BadType, 0, 0);
+            Found {
+                lead: none,
+                from: 0,
+                end: 0,
+            }
+        }
+        Framed::Is { kind, from } => {
+            let end = s.len() - TRAILER;
+            let l = typed(&s[from..end], kind);
+            Found { lead: l, from, end }
+        }
+    }
+}
+
+// The message that bytes are, on a channel of a depth kind. The reading is made in one place, so that it is not copied.
 pub fn read(s: &[u8], depth: u64) -> Reading
     ensures { λ r. ⌜ r ≡ told (messageIn depth (now (s .entry))) ⌝ }
 {
-    match frame::frame(s) {
-        Framed::BadFrame => bare(Verdict::BadFrame, 0, 0),
-        Framed::BadSum => bare(Verdict::BadSum, 0, 0),
-        Framed::BadType => bare(Verdict::BadType, 0, 0),
-        Framed::Is { kind, from } => {
-            let end = s.len() - TRAILER;
-            typed(&s[from..end], kind, depth)
-        }
-    }
+    let f = lead_of(s);
+    let l = f.lead;
+    let from = f.from;
+    let end = f.end;
+    let t = l.top;
+    listed(&s[from..end], l.at, l.count, depth, t)
 }

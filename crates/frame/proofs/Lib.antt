@@ -9,3 +9,4 @@ pub mod Well
 pub mod Framing
 pub mod Messages
 pub mod Marked
+pub mod Tagging

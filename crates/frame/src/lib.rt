@@ -6,12 +6,18 @@ ghost use lib.ListN.{take};
 ghost use Rattle.frame.specs.Fields.{fieldsOf};
 ghost use Rattle.frame.specs.Frames.{equal, total, isType, typed, frameOf};
 ghost use Rattle.frame.specs.Places.{firstOf, fieldAt, isSome};
-ghost use Rattle.frame.specs.ByPlace.{tagged, preamble, headOf, trailerOf, partsOf};
+ghost use Rattle.frame.specs.ByPlace.{Tells, tagged, preamble, headOf, trailerOf, partsOf};
 use digits::Number;
 
 // A field: its tag, and its value as from..to, where SOH stands at to.
 pub enum Step {
     Is { tag: u64, from: usize, to: usize },
+    No,
+}
+
+// A tag, and where its '=' stands.
+enum Tag {
+    Is { tag: u64, mid: usize },
     No,
 }
 
@@ -45,6 +51,9 @@ const SOH: u8 = 1;
 
 const EQUALS: u8 = 61;
 
+// A tag is at most 99,999.
+const TAG_DIGITS: usize = 5;
+
 const MOST_BYTES: usize = 8192;
 // 8=FIX.4.4 and its SOH
 const BEGIN_BYTES: usize = 10;
@@ -65,16 +74,46 @@ fn find(s: &[u8], at: usize, x: u8) -> usize
     i
 }
 
+// The tag of the field that starts at a place, and where its '=' stands. The bytes before '=' are read in the loop that
+// finds it, and what they say is `digits::ranged` of them, from 1 to 99,999: digits' own laws show it.
+fn tag_at(s: &[u8], at: usize) -> Tag
+    ensures { λ r. ⌜ Tells (now (s .entry)) at r ⌝ }
+{
+    let n = s.len();
+    let mut v = 0u64;
+    let mut i = at;
+    while i < n {
+        let b = s[i];
+        if b == EQUALS {
+            if v == 0 {
+                return Tag::No;
+            }
+            if s[at] == b'0' {
+                return Tag::No;
+            }
+            return Tag::Is { tag: v, mid: i };
+        }
+        if b < b'0' {
+            return Tag::No;
+        }
+        if b'9' < b {
+            return Tag::No;
+        }
+        if TAG_DIGITS <= i - at {
+            return Tag::No;
+        }
+        v = v * 10 + wide(b - b'0');
+        i += 1;
+    }
+    Tag::No
+}
+
 // The field that starts at a place.
 pub fn field(s: &[u8], at: usize) -> Step
     ensures { λ r. ⌜ r ≡ fieldAt (now (s .entry)) at ⌝ }
 {
     let n = s.len();
-    let mid = find(s, at, EQUALS);
-    if n <= mid {
-        return Step::No;
-    }
-    let Number::Is(tag) = digits::ranged(&s[at..mid], 5, 1, 99999) else {
+    let Tag::Is { tag, mid } = tag_at(s, at) else {
         return Step::No;
     };
     let from = mid + 1;

@@ -1,9 +1,9 @@
 -- Laws of `each`, of a run of zeros, and of the least number of a slot.
-use mathlib.Core.Path.{_≡_, refl}
+use mathlib.Core.Path.{_≡_, refl, sym, ap, _∙_}
 use mathlib.Core.Bool.{Bool, true, false, _&&_}
 use mathlib.Core.List.{List}
 use mathlib.Core.Logic.{⊎-elim}
-use Prim.Native.Nat.{ℕ, zero, suc, _+_, _<_}
+use Prim.Native.Nat.{ℕ, zero, suc, _+_, _*_, _-_, _/_, _<_}
 use native.Mathlib.Nat.{eq-or-lt-of-le, le-of-suc-le-suc}
 use native.Mathlib.Numerals.{add-one}
 use native.Mathlib.Omega.{arith}
@@ -65,6 +65,42 @@ zero-none xs at = refl
 pub zero-more : (xs : List ℕ) (at n : ℕ) → allZero xs at (n + 1) ≡ allZero xs at n && eqb (getD xs (at + n) 0) 0
 unfolding each allZero
 zero-more xs at n = rw add-one
+
+-- two runs, one behind the other
+and-true : (b : Bool) → b && true ≡ b
+and-true true = refl
+and-true false = refl
+
+and-assoc : (a b c : Bool) → a && b && c ≡ a && (b && c)
+and-assoc true b c = refl
+and-assoc false b c = refl
+
+pub zero-join : (xs : List ℕ) (at n m : ℕ) → allZero xs at (n + m) ≡ allZero xs at n && allZero xs (at + n) m
+zero-join xs at n zero =
+    let q : n + 0 ≡ n = omega arith in
+    rw (q, zero-none xs (at + n)) (sym (and-true (allZero xs at n)))
+zero-join xs at n (suc m) =
+    let q : n + suc m ≡ n + m + 1 = omega arith in
+    let p : suc m ≡ m + 1 = omega arith in
+    let r : at + (n + m) ≡ at + n + m = omega arith in
+    ap (allZero xs at) q ∙ zero-more xs at (n + m)
+    ∙ rw (r, zero-join xs at n m, p, zero-more xs (at + n) m) (and-assoc (allZero xs at n) (allZero xs (at + n) m) (eqb (getD xs (at + n + m) 0) 0))
+
+-- four runs of a quarter each, and what is left
+pub quarters : (xs : List ℕ) (at n : ℕ) {p q r s t : Bool} → p ≡ allZero xs at (n / 4) → q ≡ allZero xs (at + n / 4) (n / 4) → r ≡ allZero xs (at + n / 4 + n / 4) (n / 4)
+    → s ≡ allZero xs (at + n / 4 + n / 4 + n / 4) (n / 4) → t ≡ allZero xs (at + n / 4 + n / 4 + n / 4 + n / 4) (n - 4 * (n / 4))
+    → p && q && r && s && t ≡ allZero xs at n
+quarters xs at n ep eq er es et =
+    let h = n / 4 in
+    let e : n ≡ h + h + h + h + (n - 4 * h) = omega arith in
+    let a2 : at + (h + h) ≡ at + h + h = omega arith in
+    let a3 : at + (h + h + h) ≡ at + h + h + h = omega arith in
+    let a4 : at + (h + h + h + h) ≡ at + h + h + h + h = omega arith in
+    let j4 = zero-join xs at (h + h + h + h) (n - 4 * h) in
+    let j3 = zero-join xs at (h + h + h) h in
+    let j2 = zero-join xs at (h + h) h in
+    let j1 = zero-join xs at h h in
+    rw (ep, eq, er, es, et) (sym (ap (allZero xs at) e ∙ (rw a4 at j4) ∙ ap (λ b. b && allZero xs (at + h + h + h + h) (n - 4 * h)) ((rw a3 at j3) ∙ ap (λ b. b && allZero xs (at + h + h + h) h) ((rw a2 at j2) ∙ ap (λ b. b && allZero xs (at + h + h) h) j1))))
 
 -- numbers joined by `|` are zero where each is
 join-zero : (a b : ℕ) (s t : Bool) → eqb a 0 ≡ s → eqb b 0 ≡ t → eqb (bitOr a b) 0 ≡ s && t

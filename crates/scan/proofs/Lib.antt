@@ -1,3 +1,5 @@
 pub mod Headings
 pub mod Each
 pub mod Tests
+pub mod Columned
+pub mod Ascents

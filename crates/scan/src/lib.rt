@@ -1,66 +1,37 @@
 // The scan of a store (document 01, "The store is unsound when .."): tests of its numbers by position, which touch each about
-// once, since every call of the library pays for them. Crate sound shows that it finds exactly the sound stores.
+// once, since every call of the library pays for them. Books are tested by column first, and place by place where that doesn't
+// settle it. Crate sound shows that it finds exactly the sound stores.
 ghost use mathlib.Core.Path.{_≡_};
-ghost use Prim.Native.Nat.{ℕ, _+_, _*_, _≤_, _<_};
+ghost use mathlib.Core.Bool.{true, _&&_};
+ghost use Prim.Native.Nat.{ℕ, _+_, _*_, _-_, _≤_, _<_};
+ghost use lib.Dec.{eqb};
 ghost use lib.ListN.{length, getD, drop};
 ghost use Rattle.board.specs.Sound.{distinct, among};
 ghost use Rattle.store.specs.Layout.{storeSize, atFollowed, atBase, atQueued};
-ghost use Rattle.scan.specs.Scan.{allZero, headingScan, recordScan, spread, recordsScan, mostOf, fullOf, moreTo, entryScan, sideScan, roomOf, bookScan, booksScan, updateScan, slotScan, queueScan, restScan, scan};
+ghost use Rattle.scan.specs.Quick.{fits, Spans, Joins, Sides};
+ghost use Rattle.scan.specs.Scan.{each, allZero, headingScan, recordScan, spread, recordsScan, mostOf, fullOf, moreTo, entryScan, sideScan, roomOf, bookScan, booksScan, updateScan, slotScan, queueScan, restScan, scan};
 
-// The store's numbers.
-const STORE: usize = 7168;
-
-// The number of this layout.
-const LAYOUT: u64 = 4601;
-
-// The heading: where the layout's number, the depth kind, how many are followed, H, B, the heard moment, the marks and how many
-// are queued stand.
-const AT_LAYOUT: usize = 0;
-
-const DEPTH: usize = 1;
-
-const FOLLOWED: usize = 2;
-
-const NUMBER: usize = 3;
-
-const BASE: usize = 4;
-
-const HEARD: usize = 5;
-
-const MARKS: usize = 6;
-
-const QUEUED: usize = 7;
-
+// Where things stand is crate store's table; here is what only a scan asks.
 // The spare numbers behind the heading: where they start, and how many there are.
 const HEADING: usize = 8;
 
 const SPARE: usize = 24;
 
-// The instruments' records: where they start, how far apart they stand, how many numbers 16 take.
-const IDS: usize = 32;
-
-const RECORD: usize = 8;
-
+// How many numbers 16 instruments' records take.
 const RECORDS: usize = 128;
 
-// The books: where they start, a side's numbers, a book's, and those of 16.
-const SIDES: usize = 160;
-
+// A side's numbers, and those of 16 books.
 const SIDE: usize = 128;
-
-const BOOK: usize = 256;
 
 const BOOKS: usize = 4096;
 
-// The queue: where it starts, how far apart its entries stand, its numbers with the spare ones behind it.
-const QUEUE: usize = 4256;
-
-const SLOT: usize = 11;
-
+// The queue's numbers with the spare ones behind it.
 const QUEUE_AND_SPARE: usize = 2912;
 
-// An entry's numbers, those of a side's 20 places, and the spare ones behind them.
+// An entry's numbers, those of four, those of a side's 20 places, and the spare ones behind them.
 const ENTRY: usize = 5;
+
+const FOUR: usize = 20;
 
 const PLACES: usize = 100;
 
@@ -75,9 +46,6 @@ const MOST_QUEUED: u64 = 256;
 
 // 34 and 369.
 const MOST_NUMBER: u64 = 4294967295;
-
-// 48: 18 digits.
-const MOST_ID: u64 = 999999999999999999;
 
 // Reasons are 0, 1 and 2.
 const MOST_REASON: u64 = 2;
@@ -107,10 +75,10 @@ const MOST_ORDERS: u64 = 65535;
 
 const NO_WORD: u64 = 65536;
 
-// Whether the n numbers from `at` on are zero, with no way out of the loop: several are taken at a time.
-fn zero(store: &[u64], at: usize, n: usize) -> bool
+// The n numbers from `at` on joined by `|`, with no way out of the loop: several are taken at a time.
+fn joined(store: &[u64], at: usize, n: usize) -> u64
     requires { ⌜ at + n ≤ length (now store) ⌝ }
-    ensures { λ r. ⌜ r ≡ allZero (now (store .entry)) at n ⌝ }
+    ensures { λ r. ⌜ eqb r 0 ≡ allZero (now (store .entry)) at n ⌝ }
 {
     let mut acc = 0u64;
     let mut i = 0usize;
@@ -118,7 +86,40 @@ fn zero(store: &[u64], at: usize, n: usize) -> bool
         acc = acc | store[at + i];
         i += 1;
     }
-    acc == 0
+    acc
+}
+
+// Whether the n numbers from `at` on are zero.
+fn zero(store: &[u64], at: usize, n: usize) -> bool
+    requires { ⌜ at + n ≤ length (now store) ⌝ }
+    ensures { λ r. ⌜ r ≡ allZero (now (store .entry)) at n ⌝ }
+{
+    joined(store, at, n) == 0
+}
+
+// The same of a long run: its quarters side by side, so that a join need not wait for the one before it.
+fn zeros(store: &[u64], at: usize, n: usize) -> bool
+    requires { ⌜ at + n ≤ length (now store) ⌝ }
+    ensures { λ r. ⌜ r ≡ allZero (now (store .entry)) at n ⌝ }
+{
+    let h = n / 4;
+    let second = at + h;
+    let third = second + h;
+    let fourth = third + h;
+    let mut a = 0u64;
+    let mut b = 0u64;
+    let mut c = 0u64;
+    let mut d = 0u64;
+    let mut i = 0usize;
+    while i < h {
+        a = a | store[at + i];
+        b = b | store[second + i];
+        c = c | store[third + i];
+        d = d | store[fourth + i];
+        i += 1;
+    }
+    let last = zero(store, fourth + h, n - 4 * h);
+    (a == 0) & (b == 0) & (c == 0) & (d == 0) & last
 }
 
 // The heading.
@@ -126,17 +127,17 @@ fn heading(store: &[u64]) -> bool
     requires { ⌜ storeSize ≤ length (now store) ⌝ }
     ensures { λ r. ⌜ r ≡ headingScan (now (store .entry)) ⌝ }
 {
-    let n = store[FOLLOWED];
+    let n = store[store::FOLLOWED];
     if MOST_INSTS < n {
         return false;
     }
-    let h = store[NUMBER];
-    let b = store[BASE];
-    let heard = store[HEARD];
-    let marks = store[MARKS];
-    let q = store[QUEUED];
-    (store[AT_LAYOUT] == LAYOUT)
-        & (store[DEPTH] <= 1)
+    let h = store[store::NUMBER];
+    let b = store[store::BASE];
+    let heard = store[store::HEARD];
+    let marks = store[store::MARKS];
+    let q = store[store::QUEUED];
+    (store[store::AT_LAYOUT] == store::LAYOUT)
+        & (store[store::DEPTH] <= 1)
         & (1 <= n)
         & (h <= MOST_NUMBER)
         & (b <= h)
@@ -155,7 +156,7 @@ fn instrument(store: &[u64], at: usize) -> bool
     let id = store[at];
     let reason = store[at + 1];
     let spare = zero(store, at + 2, 6);
-    (1 <= id) & (id <= MOST_ID) & (reason <= MOST_REASON) & spare
+    (1 <= id) & (id <= store::MOST_ID) & (reason <= MOST_REASON) & spare
 }
 
 // Whether d stands among the numbers at `at`, `at` + step and so on, from the one at the index `from` on, n in all.
@@ -173,11 +174,33 @@ fn stands(run: &[u64], at: usize, step: usize, from: usize, n: usize, d: u64) ->
     false
 }
 
-// Whether none of the n numbers at `at`, `at` + step and so on stands there twice.
+// Whether the n numbers at `at`, `at` + step and so on rise from above 0: true says that none of them stands there twice, false
+// says nothing.
+fn rises(run: &[u64], at: usize, step: usize, n: usize) -> bool
+    requires { ⌜ ((k : ℕ) → k < n → at + k * step < length (now run)) ⌝ }
+    ensures { λ r. ⌜ (r ≡ true → distinct (spread (now (run .entry)) at step n) ≡ true) ⌝ }
+{
+    let mut last = 0u64;
+    let mut i = 0usize;
+    while i < n {
+        let d = run[at + i * step];
+        if d <= last {
+            return false;
+        }
+        last = d;
+        i += 1;
+    }
+    true
+}
+
+// Whether none of the n numbers at `at`, `at` + step and so on stands there twice. Ids are often followed in their order.
 pub fn apart(run: &[u64], at: usize, step: usize, n: usize) -> bool
     requires { ⌜ ((k : ℕ) → k < n → at + k * step < length (now run)) ⌝ }
     ensures { λ r. ⌜ r ≡ distinct (spread (now (run .entry)) at step n) ⌝ }
 {
+    if rises(run, at, step, n) {
+        return true;
+    }
     let mut i = 0usize;
     while i < n {
         let d = run[at + i * step];
@@ -199,13 +222,17 @@ fn records(store: &[u64], n: usize) -> bool
     }
     let mut i = 0usize;
     while i < n {
-        if !instrument(store, IDS + i * RECORD) {
+        if !instrument(store, store::IDS + i * store::RECORD) {
             return false;
         }
         i += 1;
     }
-    let unused = zero(store, IDS + n * RECORD, RECORDS - n * RECORD);
-    let distinct = apart(store, IDS, RECORD, n);
+    let unused = zero(
+        store,
+        store::IDS + n * store::RECORD,
+        RECORDS - n * store::RECORD,
+    );
+    let distinct = apart(store, store::IDS, store::RECORD, n);
     unused & distinct
 }
 
@@ -261,6 +288,23 @@ fn entry(store: &[u64], at: usize, most: u64, full: u64) -> bool
     store[at + 4] < MOMENTS
 }
 
+// n places from `at` on.
+fn places(store: &[u64], at: usize, n: usize, most: u64, full: u64) -> bool
+    requires { ⌜ at + n * 5 ≤ length (now store) ⌝ }
+    ensures { λ r. ⌜ r ≡ each (λ (k : ℕ). entryScan most full (now (store .entry)) (at + k * 5)) n ⌝ }
+{
+    let mut i = 0usize;
+    let mut o = at;
+    while i < n {
+        if !entry(store, o, most, full) {
+            return false;
+        }
+        i += 1;
+        o += ENTRY;
+    }
+    true
+}
+
 // A side with room for so many places.
 fn side(store: &[u64], at: usize, room: usize, most: u64, full: u64) -> bool
     requires { ⌜ (at + 128 ≤ length (now store)) × (room ≤ 20) ⌝ }
@@ -270,16 +314,10 @@ fn side(store: &[u64], at: usize, room: usize, most: u64, full: u64) -> bool
     if room < n {
         return false;
     }
-    let mut i = 0usize;
-    let mut o = at + 1;
-    while i < n {
-        if !entry(store, o, most, full) {
-            return false;
-        }
-        i += 1;
-        o += ENTRY;
+    if !places(store, at + 1, n, most, full) {
+        return false;
     }
-    let unused = zero(store, o, PLACES - n * ENTRY);
+    let unused = zero(store, at + 1 + n * ENTRY, PLACES - n * ENTRY);
     let spare = zero(store, at + 101, SIDE_SPARE);
     unused & spare
 }
@@ -306,22 +344,175 @@ fn book(store: &[u64], at: usize, room: usize, most: u64, full: u64) -> bool
     side(store, at + SIDE, room, most, full)
 }
 
-// The books of the instruments that are followed.
+// Four numbers of a column, each less `low`, joined by `|`: none of them is further above `low` than that, since one below `low`
+// wraps to the top of 64 bits.
+fn four(store: &[u64], at: usize, low: u64) -> u64
+    requires { ⌜ at + 16 ≤ length (now store) ⌝ }
+    ensures { λ r. ⌜ Spans (now (store .entry)) at low r ⌝ }
+{
+    let a = std::num::wrapping_sub_u64(store[at], low);
+    let b = std::num::wrapping_sub_u64(store[at + 5], low);
+    let c = std::num::wrapping_sub_u64(store[at + 10], low);
+    let d = std::num::wrapping_sub_u64(store[at + 15], low);
+    (a | b) | (c | d)
+}
+
+// Many places by column: each column's numbers, less the least that they may be, joined by `|`.
+struct Columns {
+    price: u64,
+    size: u64,
+    by: u64,
+    more: u64,
+    moment: u64,
+}
+
+// Whether they stay within what every place must: `low` is the least that `by` may be, and `top` the most of `more` beside it.
+fn fit(c: Columns, low: u64, most: u64, top: u64) -> bool
+    requires { ⌜ low ≤ most ⌝ }
+    ensures { λ r. ⌜ r ≡ fits low most top c ⌝ }
+{
+    (c.price <= MOST_PRICE)
+        & (c.size < MOST_SIZE)
+        & (c.by <= most - low)
+        & (c.more <= top)
+        & (c.moment < MOMENTS)
+}
+
+// Four more places: enough in a row for the compiler to take neighbours as one.
+fn turn(store: &[u64], at: usize, low: u64, c: Columns) -> Columns
+    requires { ⌜ at + 20 ≤ length (now store) ⌝ }
+    ensures { λ r. ⌜ Joins (now (store .entry)) at 4 low c r ⌝ }
+{
+    let price = four(store, at, 0);
+    let size = four(store, at + 1, 1);
+    let by = four(store, at + 2, low);
+    let more = four(store, at + 3, 0);
+    let moment = four(store, at + 4, 0);
+    Columns {
+        price: c.price | price,
+        size: c.size | size,
+        by: c.by | by,
+        more: c.more | more,
+        moment: c.moment | moment,
+    }
+}
+
+// n fours of places.
+fn fours(store: &[u64], at: usize, n: usize, low: u64, c: Columns) -> Columns
+    requires { ⌜ (at + n * 20 ≤ length (now store)) × (n ≤ 5) ⌝ }
+    ensures { λ r. ⌜ Joins (now (store .entry)) at (n * 4) low c r ⌝ }
+{
+    let mut acc = c;
+    let mut i = 0usize;
+    let mut o = at;
+    while i < n {
+        acc = turn(store, o, low, acc);
+        i += 1;
+        o += FOUR;
+    }
+    acc
+}
+
+// What is behind the n places of a side, joined by `|`.
+fn behind(store: &[u64], at: usize, n: usize) -> u64
+    requires { ⌜ (at + 128 ≤ length (now store)) × (n ≤ 20) ⌝ }
+    ensures { λ r. ⌜ eqb r 0 ≡ allZero (now (store .entry)) (at + 1 + n * 5) (100 - n * 5) && allZero (now (store .entry)) (at + 101) 27 ⌝ }
+{
+    let unused = joined(store, at + 1 + n * ENTRY, PLACES - n * ENTRY);
+    let spare = joined(store, at + 101, SIDE_SPARE);
+    unused | spare
+}
+
+// Whether all of so many sides are sound, their places taken by column, and each column of all sides tested once. False says
+// nothing: numbers that lie within a limit may reach above it when they are joined.
+fn quick(store: &[u64], marks: u64, sides: usize, low: u64, most: u64, full: u64, top: u64) -> bool
+    requires { ⌜ (storeSize ≤ length (now store)) × (sides ≤ 32) × ((b : ℕ) → low ≤ b → top ≤ moreTo most full b) ⌝ }
+    ensures { λ r. ⌜ (r ≡ true → Sides most full marks (now (store .entry)) sides) ⌝ }
+{
+    if low < 1 {
+        return false;
+    }
+    if most < low {
+        return false;
+    }
+    let mut c = Columns {
+        price: 0,
+        size: 0,
+        by: 0,
+        more: 0,
+        moment: 0,
+    };
+    let mut rest = 0u64;
+    let mut j = 0usize;
+    while j < sides {
+        let at = store::BIDS + j * SIDE;
+        let n = store[at] as usize;
+        let room = room_of(marks, j / 2);
+        if room < n {
+            return false;
+        }
+        c = fours(store, at + 1, n / 4, low, c);
+        if !places(store, at + 1 + n / 4 * FOUR, n % 4, most, full) {
+            return false;
+        }
+        rest = rest | behind(store, at, n);
+        j += 1;
+    }
+    fit(c, low, most, top) & (rest == 0)
+}
+
+// `more` of the first place that one of the sides holds, or 0.
+fn sample(store: &[u64], sides: usize) -> u64
+    requires { ⌜ (storeSize ≤ length (now store)) × (sides ≤ 32) ⌝ }
+{
+    let mut j = 0usize;
+    while j < sides {
+        if store[store::BIDS + j * SIDE] != 0 {
+            return store[store::BIDS + j * SIDE + 4];
+        }
+        j += 1;
+    }
+    0
+}
+
+// The same with the limits that the first place suggests: either no id has a second word, or the first word of each has 8 bytes.
+fn tried(store: &[u64], marks: u64, sides: usize, most: u64, full: u64) -> bool
+    requires { ⌜ (storeSize ≤ length (now store)) × (sides ≤ 32) ⌝ }
+    ensures { λ r. ⌜ (r ≡ true → Sides most full marks (now (store .entry)) sides) ⌝ }
+{
+    if sample(store, sides) == 0 {
+        return quick(store, marks, sides, 1, most, full, 0);
+    }
+    quick(store, marks, sides, full, most, full, most)
+}
+
+// The books of the instruments that are followed: all at once, or else one by one.
 fn books(store: &[u64], most: u64, full: u64) -> bool
     requires { ⌜ (storeSize ≤ length (now store)) × (getD (now store) atFollowed 0 ≤ 16) ⌝ }
     ensures { λ r. ⌜ r ≡ booksScan most full (now (store .entry)) ⌝ }
 {
-    let n = store[FOLLOWED] as usize;
-    let marks = store[MARKS];
+    let n = store[store::FOLLOWED] as usize;
+    let marks = store[store::MARKS];
+    if tried(store, marks, 2 * n, most, full) {
+        return zeros(
+            store,
+            store::BIDS + n * store::BOOK,
+            BOOKS - n * store::BOOK,
+        );
+    }
     let mut i = 0usize;
     while i < n {
         let room = room_of(marks, i);
-        if !book(store, SIDES + i * BOOK, room, most, full) {
+        if !book(store, store::BIDS + i * store::BOOK, room, most, full) {
             return false;
         }
         i += 1;
     }
-    zero(store, SIDES + n * BOOK, BOOKS - n * BOOK)
+    zeros(
+        store,
+        store::BIDS + n * store::BOOK,
+        BOOKS - n * store::BOOK,
+    )
 }
 
 // What, action, place and entry of a queued entry.
@@ -371,19 +562,31 @@ fn queue(store: &[u64], most: u64, full: u64) -> bool
     requires { ⌜ (storeSize ≤ length (now store)) × (getD (now store) atQueued 0 ≤ 256) × (getD (now store) atBase 0 ≤ 4294967295) ⌝ }
     ensures { λ r. ⌜ r ≡ queueScan most full (now (store .entry)) ⌝ }
 {
-    let q = store[QUEUED] as usize;
-    let n = store[FOLLOWED];
-    let high = store[NUMBER];
-    let mut low = store[BASE] + 1;
+    let q = store[store::QUEUED] as usize;
+    let n = store[store::FOLLOWED];
+    let high = store[store::NUMBER];
+    let mut low = store[store::BASE] + 1;
     let mut i = 0usize;
     while i < q {
-        if !slot(store, QUEUE + i * SLOT, low, high, n, most, full) {
+        if !slot(
+            store,
+            store::QUEUE + i * store::SLOT,
+            low,
+            high,
+            n,
+            most,
+            full,
+        ) {
             return false;
         }
-        low = store[QUEUE + i * SLOT];
+        low = store[store::QUEUE + i * store::SLOT];
         i += 1;
     }
-    zero(store, QUEUE + q * SLOT, QUEUE_AND_SPARE - q * SLOT)
+    zeros(
+        store,
+        store::QUEUE + q * store::SLOT,
+        QUEUE_AND_SPARE - q * store::SLOT,
+    )
 }
 
 // The books and the queue.
@@ -391,7 +594,7 @@ fn rest(store: &[u64]) -> bool
     requires { ⌜ (storeSize ≤ length (now store)) × (getD (now store) atFollowed 0 ≤ 16) × (getD (now store) atQueued 0 ≤ 256) × (getD (now store) atBase 0 ≤ 4294967295) ⌝ }
     ensures { λ r. ⌜ r ≡ restScan (now (store .entry)) ⌝ }
 {
-    let depth = store[DEPTH];
+    let depth = store[store::DEPTH];
     let most = most_of(depth);
     let full = full_of(depth);
     if !books(store, most, full) {
@@ -404,13 +607,13 @@ fn rest(store: &[u64]) -> bool
 pub fn scan(store: &[u64]) -> bool
     ensures { λ r. ⌜ r ≡ scan (now (store .entry)) ⌝ }
 {
-    if store.len() < STORE {
+    if store.len() < store::STORE {
         return false;
     }
     if !heading(store) {
         return false;
     }
-    let n = store[FOLLOWED] as usize;
+    let n = store[store::FOLLOWED] as usize;
     if !records(store, n) {
         return false;
     }

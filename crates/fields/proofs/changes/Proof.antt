@@ -4,6 +4,7 @@ use native.Mathlib.Omega.{arith}
 use borrow.Author.Tests.{not-true, not-false}
 use borrow.Author.Needs.{needs}
 use Rattle.tags.proofs.Walking.{was-untidy, was-tidy}
+use Rattle.fields.proofs.Leading.{leads-as}
 use Rattle.fields.proofs.Positions.{no-top, a-top}
 use Rattle.fields.proofs.Bodies.{refused-by, x-untidy, x-no-top, is-top-x, fair-x, top-x-same, x-is}
 use Rattle.fields.proofs.changes.Statement.{statement}
@@ -12,12 +13,12 @@ use Rattle.fields.proofs.changes.Tie as tie
 walk-requires : tie.Need-walk-requires
 walk-requires c κs = search needs
 
-bare-requires : tie.Need-bare-requires
-bare-requires c κs = search needs
+alone-requires : tie.Need-alone-requires
+alone-requires c κs = search needs
 
 returns : tie.Need-returns
 returns c =
-    c .bare .ensures ∙ refused-by _ (x-untidy _ _ (was-untidy _ 268 21 4 6 _ _ (c .before .before .before .walk .ensures) (not-true _ (c .before .if1 .taken))))
+    leads-as (c .alone .ensures) _ (λ depth. refused-by _ (x-untidy depth _ (was-untidy _ 268 21 4 6 _ _ (c .before .before .before .walk .ensures) (not-true _ (c .before .if1 .taken)))))
 
 top-x-requires : tie.Need-top-x-requires
 top-x-requires c κs = search needs
@@ -28,13 +29,13 @@ enum-known-t c = search needs
 enum-told : tie.Need-enum-told
 enum-told c = search needs
 
-bare-requires-2 : tie.Need-bare-requires-2
-bare-requires-2 c κs = search needs
+alone-requires-2 : tie.Need-alone-requires-2
+alone-requires-2 c κs = search needs
 
 returns-2 : tie.Need-returns-2
 returns-2 c =
     let p = was-tidy _ 268 21 4 6 _ _ (c .before .before .before .before .before .before .before .walk .ensures) (not-false _ (c .before .before .before .before .before .if1 .left)) in
-    c .bare2 .ensures ∙ refused-by _ (x-no-top _ _ (sym (top-x-same 21 _ _ _ (omega arith) (p .holds)) ∙ no-top _ (sym (c .before .before .before .top-x .ensures) ∙ c .before .enum-told .given .1)))
+    leads-as (c .alone2 .ensures) _ (λ depth. refused-by _ (x-no-top depth _ (sym (top-x-same 21 _ _ _ (omega arith) (p .holds)) ∙ no-top _ (sym (c .before .before .before .top-x .ensures) ∙ c .before .enum-told .given .1))))
 
 group-requires : tie.Need-group-requires
 group-requires c κs =
@@ -45,19 +46,19 @@ returns-3 : tie.Need-returns-3
 returns-3 c =
     let p = was-tidy _ 268 21 4 6 _ _ (c .before .before .before .before .before .before .before .before .walk .ensures) (not-false _ (c .before .before .before .before .before .before .if1 .left)) in
     let t = is-top-x _ (sym (top-x-same 21 _ _ _ (omega arith) (p .holds)) ∙ a-top _ (sym (c .before .before .before .before .top-x .ensures) ∙ c .before .before .t .given .1)) in
-    c .group .ensures ∙ x-is _ _ (p .tidy) _ t _ (p .rest)
+    leads-as (c .group .ensures) _ (λ depth. x-is depth _ (p .tidy) _ t _ (p .rest))
 
 pub changes-spec : {M : Type 1} → statement M
 changes-spec =
     tie.close
     (tie.spec
     walk-requires
-    bare-requires
+    alone-requires
     returns
     top-x-requires
     enum-known-t
     enum-told
-    bare-requires-2
+    alone-requires-2
     returns-2
     group-requires
     returns-3)

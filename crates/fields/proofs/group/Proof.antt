@@ -5,16 +5,17 @@ use borrow.Author.Needs.{needs}
 use Rattle.digits.proofs.Ranges.{ranged-in}
 use Rattle.frame.proofs.Walk.{found, never-no, walk-on}
 use Rattle.fields.specs.Groups.{answered}
+use Rattle.fields.proofs.Leading.{leads-as}
 use Rattle.fields.proofs.Positions.{none-answered}
 use Rattle.fields.proofs.Bodies.{no-group, bad-count, good-count}
 use Rattle.fields.proofs.group.Statement.{statement}
 use Rattle.fields.proofs.group.Tie as tie
 
-bare-requires : tie.Need-bare-requires
-bare-requires c κs = search needs
+alone-requires : tie.Need-alone-requires
+alone-requires c κs = search needs
 
 returns : tie.Need-returns
-returns c = c .bare .ensures ∙ none-answered _ ∙ ap (answered _) (sym (no-group _ _ _ _ (c .before .if1 .taken)))
+returns c = leads-as (c .alone .ensures) _ (λ depth. none-answered _ ∙ ap (answered _) (sym (no-group _ _ depth _ (c .before .if1 .taken))))
 
 field-requires : tie.Need-field-requires
 field-requires c κs = search needs
@@ -25,8 +26,8 @@ enum-known-from c = search needs
 enum-told : tie.Need-enum-told
 enum-told c = search needs
 
-bare-requires-2 : tie.Need-bare-requires-2
-bare-requires-2 c κs = search needs
+alone-requires-2 : tie.Need-alone-requires-2
+alone-requires-2 c κs = search needs
 
 returns-2 : tie.Need-returns-2
 returns-2 c =
@@ -50,37 +51,41 @@ enum-known-count c = search needs
 enum-told-2 : tie.Need-enum-told-2
 enum-told-2 c = search needs
 
-bare-requires-3 : tie.Need-bare-requires-3
-bare-requires-3 c κs = search needs
+alone-requires-3 : tie.Need-alone-requires-3
+alone-requires-3 c κs = search needs
 
 returns-3 : tie.Need-returns-3
 returns-3 c =
-    c .bare3 .ensures ∙ none-answered _
-    ∙ ap (answered _) (sym (bad-count _ _ _ _ _ _ _ (c .before .before .before .before .before .before .before .before .before .before .before .pre .0) (c .before .before .before .before .before .before .before .before .before .if1 .left) (sym (c .before .before .before .before .before .before .before .before .field .ensures) ∙ c .before .before .before .before .before .before .from .given .1) (sym (c .before .before .before .ranged .ensures) ∙ c .before .enum-told2 .given .1)))
+    leads-as (c .alone3 .ensures) _ (λ depth. none-answered _
+    ∙ ap (answered _) (sym (bad-count _ _ depth _ _ _ _ (c .before .before .before .before .before .before .before .before .before .before .before .pre .0) (c .before .before .before .before .before .before .before .before .before .if1 .left) (sym (c .before .before .before .before .before .before .before .before .field .ensures) ∙ c .before .before .before .before .before .before .from .given .1) (sym (c .before .before .before .ranged .ensures) ∙ c .before .enum-told2 .given .1))))
 
-add-listed : tie.Need-add-listed
-add-listed c =
+add-at : tie.Need-add-at
+add-at c =
     let f = found _ _ (sym (c .before .before .before .before .before .before .before .before .field .ensures) ∙ c .before .before .before .before .before .before .from .given .1) in omega (arith, f .high, c .before .before .before .before .before .before .before .before .before .before .before .good .0 .0)
-
-listed-requires : tie.Need-listed-requires
-listed-requires c κs =
-    (walk-on _ _ (c .before .before .before .before .before .before .before .before .before .before .before .pre .0) (c .before .before .before .before .before .before .before .before .before .if1 .left) (sym (c .before .before .before .before .before .before .before .before .field .ensures) ∙ c .before .before .before .before .before .before .from .given .1) .good, (c .before .before .before .before .before .before .before .before .before .before .before .pre .1, ranged-in 2 0 64 _ (sym (c .before .before .before .ranged .ensures) ∙ c .before .count .given .1) .high))
 
 returns-4 : tie.Need-returns-4
 returns-4 c =
-    c .listed .ensures
-    ∙ ap (answered _) (sym (good-count _ _ _ _ _ _ _ (c .before .before .before .before .before .before .before .before .before .before .before .before .pre .0) (c .before .before .before .before .before .before .before .before .before .before .if1 .left) (sym (c .before .before .before .before .before .before .before .before .before .field .ensures) ∙ c .before .before .before .before .before .before .before .from .given .1) _ (sym (c .before .before .before .before .ranged .ensures) ∙ c .before .before .count .given .1)))
+    let top = c .before .before .before .before .before .before .before .before .before .before .before in
+    let step = sym (c .before .before .before .before .before .before .before .before .field .ensures) ∙ c .before .before .before .before .before .before .from .given .1 in
+    let inner = c .before .before .before .before .before .before .before .before .before .if1 .left in
+    let said = sym (c .before .before .before .ranged .ensures) ∙ c .before .count .given .1 in
+    record {
+      chained = walk-on _ _ (top .pre .0) inner step .good;
+      fair = top .pre .1;
+      few = ranged-in 2 0 64 _ said .high;
+      says = λ depth. ap (answered _) (sym (good-count _ _ depth _ _ _ _ (top .pre .0) inner step _ said));
+    }
 
 pub group-spec : {M : Type 1} → statement M
 group-spec =
     tie.close
     (tie.spec
-    bare-requires
+    alone-requires
     returns
     field-requires
     enum-known-from
     enum-told
-    bare-requires-2
+    alone-requires-2
     returns-2
     sub-ranged
     part-ranged-start
@@ -88,8 +93,7 @@ group-spec =
     ranged-requires
     enum-known-count
     enum-told-2
-    bare-requires-3
+    alone-requires-3
     returns-3
-    add-listed
-    listed-requires
+    add-at
     returns-4)

@@ -4,6 +4,7 @@ use native.Mathlib.Omega.{arith}
 use borrow.Author.Tests.{not-true, not-false}
 use borrow.Author.Needs.{needs}
 use Rattle.tags.proofs.Walking.{Passed, was-untidy, was-tidy}
+use Rattle.fields.proofs.Leading.{leads-as}
 use Rattle.fields.proofs.Positions.{no-top, a-top}
 use Rattle.fields.proofs.Bodies.{refused-by, chain-fair, o-untidy, o-untidy-rest, o-no-top, is-top-x, top-x-same, o-is}
 use Rattle.fields.proofs.other.Statement.{statement}
@@ -12,24 +13,24 @@ use Rattle.fields.proofs.other.Tie as tie
 walk-requires : tie.Need-walk-requires
 walk-requires c κs = (c .before .pre, (omega arith, omega arith))
 
-bare-requires : tie.Need-bare-requires
-bare-requires c κs = search needs
+alone-requires : tie.Need-alone-requires
+alone-requires c κs = search needs
 
 returns : tie.Need-returns
 returns c =
-    c .bare .ensures ∙ refused-by _ (o-untidy _ (was-untidy _ 268 6 4 6 _ _ (c .before .before .before .walk .ensures) (not-true _ (c .before .if1 .taken))))
+    leads-as (c .alone .ensures) _ (λ depth. refused-by _ (o-untidy _ (was-untidy _ 268 6 4 6 _ _ (c .before .before .before .walk .ensures) (not-true _ (c .before .if1 .taken)))))
 
 walk-requires-2 : tie.Need-walk-requires-2
 walk-requires-2 c κs =
     (was-tidy _ 268 6 4 6 _ _ (c .before .before .walk .ensures) (not-false _ (c .if1 .left)) .chained, (omega arith, omega arith))
 
-bare-requires-2 : tie.Need-bare-requires-2
-bare-requires-2 c κs = search needs
+alone-requires-2 : tie.Need-alone-requires-2
+alone-requires-2 c κs = search needs
 
 returns-2 : tie.Need-returns-2
 returns-2 c =
     let p = was-tidy _ 268 6 4 6 _ _ (c .before .before .before .before .before .before .walk .ensures) (not-false _ (c .before .before .before .before .if1 .left)) in
-    c .bare2 .ensures ∙ refused-by _ (o-untidy-rest _ (chain-fair _ (c .before .before .before .before .before .before .before .before .pre)) (rw (p .rest) at (was-untidy _ 0 6 0 0 _ _ (c .before .before .before .walk2 .ensures) (not-true _ (c .before .if2 .taken)))))
+    leads-as (c .alone2 .ensures) _ (λ depth. refused-by _ (o-untidy-rest _ (chain-fair _ (c .before .before .before .before .before .before .before .before .pre)) (rw (p .rest) at (was-untidy _ 0 6 0 0 _ _ (c .before .before .before .walk2 .ensures) (not-true _ (c .before .if2 .taken))))))
 
 top-x-requires : tie.Need-top-x-requires
 top-x-requires c κs = search needs
@@ -40,38 +41,38 @@ enum-known-t c = search needs
 enum-told : tie.Need-enum-told
 enum-told c = search needs
 
-bare-requires-3 : tie.Need-bare-requires-3
-bare-requires-3 c κs = search needs
+alone-requires-3 : tie.Need-alone-requires-3
+alone-requires-3 c κs = search needs
 
 returns-3 : tie.Need-returns-3
 returns-3 c =
     let p = was-tidy _ 268 6 4 6 _ _ (c .before .before .before .before .before .before .before .before .before .before .walk .ensures) (not-false _ (c .before .before .before .before .before .before .before .before .if1 .left)) in
-    c .bare3 .ensures ∙ refused-by _ (o-no-top _ (sym (top-x-same 6 _ _ _ (omega arith) (p .holds)) ∙ no-top _ (sym (c .before .before .before .top-x .ensures) ∙ c .before .enum-told .given .1)))
+    leads-as (c .alone3 .ensures) _ (λ depth. refused-by _ (o-no-top _ (sym (top-x-same 6 _ _ _ (omega arith) (p .holds)) ∙ no-top _ (sym (c .before .before .before .top-x .ensures) ∙ c .before .enum-told .given .1))))
 
-bare-requires-4 : tie.Need-bare-requires-4
-bare-requires-4 c κs = search needs
+alone-requires-4 : tie.Need-alone-requires-4
+alone-requires-4 c κs = search needs
 
 returns-4 : tie.Need-returns-4
 returns-4 c =
     let p = was-tidy _ 268 6 4 6 _ _ (c .before .before .before .before .before .before .before .before .before .before .before .walk .ensures) (not-false _ (c .before .before .before .before .before .before .before .before .before .if1 .left)) in
     let q = was-tidy _ 0 6 0 0 _ _ (c .before .before .before .before .before .before .before .before .walk2 .ensures) (not-false _ (c .before .before .before .before .before .before .if2 .left)) in
     let t = is-top-x _ (sym (top-x-same 6 _ _ _ (omega arith) (p .holds)) ∙ a-top _ (sym (c .before .before .before .before .top-x .ensures) ∙ c .before .before .t .given .1)) in
-    c .bare4 .ensures ∙ o-is _ (chain-fair _ (c .before .before .before .before .before .before .before .before .before .before .before .before .before .pre)) (p .tidy) (rw (p .rest) at (q .tidy)) _ t
+    leads-as (c .alone4 .ensures) _ (λ depth. o-is _ (chain-fair _ (c .before .before .before .before .before .before .before .before .before .before .before .before .before .pre)) (p .tidy) (rw (p .rest) at (q .tidy)) _ t)
 
 pub other-spec : {M : Type 1} → statement M
 other-spec =
     tie.close
     (tie.spec
     walk-requires
-    bare-requires
+    alone-requires
     returns
     walk-requires-2
-    bare-requires-2
+    alone-requires-2
     returns-2
     top-x-requires
     enum-known-t
     enum-told
-    bare-requires-3
+    alone-requires-3
     returns-3
-    bare-requires-4
+    alone-requires-4
     returns-4)

@@ -1,6 +1,7 @@
 -- `fields::typed` meets its contract: the type's own way to read. Assumes nothing.
 use mathlib.Core.Path.{_≡_, sym, ap, _∙_}
 use borrow.Author.Needs.{needs}
+use Rattle.fields.proofs.Leading.{leads-as}
 use Rattle.fields.proofs.Bodies.{type-x, type-w, type-other}
 use Rattle.fields.proofs.typed.Statement.{statement}
 use Rattle.fields.proofs.typed.Tie as tie
@@ -9,19 +10,19 @@ changes-requires : tie.Need-changes-requires
 changes-requires c κs = search needs
 
 returns : tie.Need-returns
-returns c = c .changes .ensures ∙ sym (type-x _ _ _ (c .before .if1 .taken))
+returns c = leads-as (c .changes .ensures) _ (λ depth. sym (type-x depth _ _ (c .before .if1 .taken)))
 
 snapshot-requires : tie.Need-snapshot-requires
 snapshot-requires c κs = search needs
 
 returns-2 : tie.Need-returns-2
-returns-2 c = c .snapshot .ensures ∙ sym (type-w _ _ _ (c .before .before .if1 .left) (c .before .if2 .taken))
+returns-2 c = leads-as (c .snapshot .ensures) _ (λ depth. sym (type-w depth _ _ (c .before .before .if1 .left) (c .before .if2 .taken)))
 
 other-requires : tie.Need-other-requires
 other-requires c κs = search needs
 
 returns-3 : tie.Need-returns-3
-returns-3 c = c .other .ensures ∙ sym (type-other _ _ _ (c .before .before .if1 .left) (c .before .if2 .left))
+returns-3 c = leads-as (c .other .ensures) _ (λ depth. sym (type-other depth _ _ (c .before .before .if1 .left) (c .before .if2 .left)))
 
 pub typed-spec : {M : Type 1} → statement M
 typed-spec =

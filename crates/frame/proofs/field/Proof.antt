@@ -1,27 +1,14 @@
 -- `frame::field` meets its contract: the places that it finds are those of the field. Assumes nothing.
-use mathlib.Core.Path.{sym, _∙_}
+use mathlib.Core.Path.{sym}
+use native.Mathlib.Omega.{arith}
 use borrow.Author.Needs.{needs}
-use Rattle.frame.proofs.Reading.{no-equals, no-tag, no-end, no-text, a-field}
+use Rattle.frame.proofs.Reading.{no-end, no-text, a-field}
+use Rattle.frame.proofs.Tagging.{told-no, told-is}
 use Rattle.frame.proofs.field.Statement.{statement}
 use Rattle.frame.proofs.field.Tie as tie
 
-find-requires : tie.Need-find-requires
-find-requires c κs = search needs
-
-returns : tie.Need-returns
-returns c = sym (no-equals _ _ _ (c .before .find .ensures) (c .if1 .taken))
-
-sub-ranged : tie.Need-sub-ranged
-sub-ranged c = search needs
-
-part-ranged-start : tie.Need-part-ranged-start
-part-ranged-start c = search needs
-
-part-ranged-end : tie.Need-part-ranged-end
-part-ranged-end c = search needs
-
-ranged-requires : tie.Need-ranged-requires
-ranged-requires c κs = search needs
+tag-at-requires : tie.Need-tag-at-requires
+tag-at-requires c κs = search needs
 
 enum-known-tag : tie.Need-enum-known-tag
 enum-known-tag c = search needs
@@ -29,54 +16,40 @@ enum-known-tag c = search needs
 enum-told : tie.Need-enum-told
 enum-told c = search needs
 
-returns-2 : tie.Need-returns-2
-returns-2 c = sym (no-tag _ _ _ (c .before .before .before .before .before .find .ensures) (sym (c .before .before .ranged .ensures) ∙ c .enum-told .given .1))
+returns : tie.Need-returns
+returns c = sym (told-no _ _ _ (c .before .before .tag-at .ensures) (c .enum-told .given .1))
 
 add-from : tie.Need-add-from
-add-from c = search needs
+add-from c = let h = told-is _ _ _ (c .before .before .before .tag-at .ensures) (c .before .tag .given .1) in omega (arith, h .1 .0)
 
-find-requires-2 : tie.Need-find-requires-2
-find-requires-2 c κs = search needs
+find-requires : tie.Need-find-requires
+find-requires c κs = search needs
+
+returns-2 : tie.Need-returns-2
+returns-2 c =
+    let h = told-is _ _ _ (c .before .before .before .before .before .tag-at .ensures) (c .before .before .before .tag .given .1) in
+    sym (no-end _ _ _ _ _ (h .0) (h .1 .0) (h .1 .1) (c .before .find .ensures) (c .if1 .taken))
 
 returns-3 : tie.Need-returns-3
 returns-3 c =
-    let d = c .before .before .before in
-    let e = d .before .before in
-    let f = e .before .before in
-    let t = sym (e .ranged .ensures) ∙ d .tag .given .1 in
-    sym (no-end _ _ _ _ _ (f .before .find .ensures) (f .if1 .left) t (c .before .find2 .ensures) (c .if2 .taken))
+    let h = told-is _ _ _ (c .before .before .before .before .before .before .tag-at .ensures) (c .before .before .before .before .tag .given .1) in
+    sym (no-text _ _ _ _ _ (h .0) (h .1 .0) (h .1 .1) (c .before .before .find .ensures) (c .before .if1 .left) (c .if2 .taken))
 
 returns-4 : tie.Need-returns-4
 returns-4 c =
-    let d = c .before .before .before .before in
-    let e = d .before .before in
-    let f = e .before .before in
-    let t = sym (e .ranged .ensures) ∙ d .tag .given .1 in
-    sym (no-text _ _ _ _ _ (f .before .find .ensures) (f .if1 .left) t (c .before .before .find2 .ensures) (c .before .if2 .left) (c .if3 .taken))
-
-returns-5 : tie.Need-returns-5
-returns-5 c =
-    let d = c .before .before .before .before in
-    let e = d .before .before in
-    let f = e .before .before in
-    let t = sym (e .ranged .ensures) ∙ d .tag .given .1 in
-    sym (a-field _ _ _ _ _ (f .before .find .ensures) (f .if1 .left) t (c .before .before .find2 .ensures) (c .before .if2 .left) (c .if3 .left))
+    let h = told-is _ _ _ (c .before .before .before .before .before .before .tag-at .ensures) (c .before .before .before .before .tag .given .1) in
+    sym (a-field _ _ _ _ _ (h .0) (h .1 .0) (h .1 .1) (c .before .before .find .ensures) (c .before .if1 .left) (c .if2 .left))
 
 pub field-spec : {M : Type 1} → statement M
 field-spec =
     tie.close
     (tie.spec
-    find-requires
-    returns
-    sub-ranged
-    part-ranged-start
-    part-ranged-end
-    ranged-requires
+    tag-at-requires
     enum-known-tag
     enum-told
-    returns-2
+    returns
     add-from
-    find-requires-2
+    find-requires
+    returns-2
     returns-3
-    returns-4
-    returns-5)
+    returns-4)

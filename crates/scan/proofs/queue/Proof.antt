@@ -83,20 +83,20 @@ loop-again c =
     let e : f (l .i) ≡ true = rw (← l .inv .1, ← c .before .before .slot .ensures) (not-false _ (c .before .if1 .left)) in
     (omega arith, sym (low-next xs (l .i)), rw (each-more, l .inv .2) e)
 
-mul-zero : tie.Need-mul-zero Inv-loop μ-loop
-mul-zero c = search needs
+mul-zeros : tie.Need-mul-zeros Inv-loop μ-loop
+mul-zeros c = search needs
 
-add-zero : tie.Need-add-zero Inv-loop μ-loop
-add-zero c = search needs
+add-zeros : tie.Need-add-zeros Inv-loop μ-loop
+add-zeros c = search needs
 
-mul-zero-2 : tie.Need-mul-zero-2 Inv-loop μ-loop
-mul-zero-2 c = search needs
+mul-zeros-2 : tie.Need-mul-zeros-2 Inv-loop μ-loop
+mul-zeros-2 c = search needs
 
-sub-zero : tie.Need-sub-zero Inv-loop μ-loop
-sub-zero c = search needs
+sub-zeros : tie.Need-sub-zeros Inv-loop μ-loop
+sub-zeros c = search needs
 
-zero-requires : tie.Need-zero-requires Inv-loop μ-loop
-zero-requires c κs = search needs
+zeros-requires : tie.Need-zeros-requires Inv-loop μ-loop
+zeros-requires c κs = search needs
 
 returns-2 : tie.Need-returns-2 Inv-loop μ-loop
 unfolding queueScan
@@ -106,7 +106,7 @@ returns-2 c =
     let xs = a .store .now in
     let q : l .i ≡ getD xs atQueued 0 = omega arith in
     let h : each (λ (k : ℕ). slotScan (lowOf xs k) (getD xs atNumber 0) (getD xs atFollowed 0) (a .most) (a .full) xs (slotOf k)) (getD xs atQueued 0) ≡ true = rw q at (l .inv .2) in
-    c .zero .ensures ∙ rw h
+    c .zeros .ensures ∙ rw h
 
 pub queue-spec : {M : Type 1} → statement M
 queue-spec =
@@ -131,9 +131,9 @@ queue-spec =
     add-i
     loop-less
     loop-again
-    mul-zero
-    add-zero
-    mul-zero-2
-    sub-zero
-    zero-requires
+    mul-zeros
+    add-zeros
+    mul-zeros-2
+    sub-zeros
+    zeros-requires
     returns-2)

@@ -1,0 +1,55 @@
+-- What leads to the entries: nothing does at the end, and what is led to may be said in other words. Assumes nothing.
+use mathlib.Core.Path.{_≡_, refl, ap, _∙_}
+use mathlib.Core.Bool.{true}
+use mathlib.Core.List.{List, []}
+use mathlib.Core.Option.{Option, some}
+use Prim.Native.Nat.{ℕ, _≤_}
+use native.Mathlib.Omega.{arith}
+use lib.ListN.{length, drop, drop-of-length-le}
+use Rattle.book.specs.declared.Update.{Update}
+use Rattle.message.specs.Message.{padded}
+use Rattle.message.specs.declared.Verdict.{Verdict}
+use Rattle.message.specs.declared.Reading.{Reading}
+use Rattle.frame.specs.Fields.{cut, fieldsOf}
+use Rattle.frame.specs.Places.{isSome, left}
+use Rattle.frame.proofs.Walk.{walked}
+use Rattle.tags.specs.Tags.{has}
+use Rattle.tags.specs.Slots.{between, Chained}
+use Rattle.fields.specs.Messages.{firsts}
+use Rattle.fields.specs.Groups.{bareOf, Fair, grouped, answered, Leads}
+use Rattle.fields.specs.declared.Lead.{Lead}
+use Rattle.fields.specs.declared.Top.{Top}
+use Rattle.fields.proofs.Grouping.{outside, group-start, at-end}
+
+abbrev topOf : Verdict → ℕ → ℕ → Top
+topOf v n heard = record { verdict = v; first = 279; low = 8; number = n; heard = heard; id = 0; last = 0; loops = 0 }
+
+end-chained : (s : List ℕ) → Chained s (length s)
+unfolding fieldsOf cut
+end-chained s = rw (drop-of-length-le s {i = length s} (omega arith))
+
+top-fair : (v : Verdict) (n heard : ℕ) → Fair (topOf v n heard)
+unfolding has between
+top-fair v n heard = refl
+
+none-grouped : (depth : ℕ) (t : Top) (s : List ℕ) → grouped depth t 0 (left s (length s)) ≡ some []
+none-grouped depth t s =
+    ap (grouped depth t 0) (walked s (length s) (omega arith)) ∙ group-start depth t 0 [] ∙ at-end depth t 0 firsts [] refl
+
+none-told : (v : Verdict) (n heard : ℕ) → answered (topOf v n heard) (some []) ≡ bareOf v n heard
+unfolding answered bareOf
+none-told v n heard = refl
+
+pub alone-leads : (s : List ℕ) (v : Verdict) (n heard : ℕ)
+    → Leads s (record { top = topOf v n heard; at = length s; count = 0 }) (λ depth. bareOf v n heard)
+alone-leads s v n heard =
+    record {
+      chained = end-chained s;
+      fair = top-fair v n heard;
+      few = omega arith;
+      says = λ depth. ap (answered (topOf v n heard)) (none-grouped depth (topOf v n heard) s) ∙ none-told v n heard;
+    }
+
+-- in other words
+pub leads-as : {s : List ℕ} {l : Lead} {f : ℕ → Reading} → Leads s l f → (g : ℕ → Reading) → ((depth : ℕ) → f depth ≡ g depth) → Leads s l g
+leads-as h g q = record { chained = h .chained; fair = h .fair; few = h .few; says = λ depth. h .says depth ∙ q depth }
