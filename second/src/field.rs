@@ -1,0 +1,83 @@
+//! Readers of the values that stand in fields; `None` is a breach under Fields.
+
+use crate::flip::{either, on, Flip};
+
+/// The largest number of tags 34, 369 and 911.
+pub const LARGEST_NUMBER: u64 = 4_294_967_295;
+/// The largest SecurityID, 18 digits.
+pub const LARGEST_ID: u64 = 999_999_999_999_999_999;
+/// Ten-millionths in one.
+const ONE: i64 = 10_000_000;
+
+/// A whole number without leading zero, except 0 itself, from `low` to `high`.
+pub fn whole(value: &[u8], low: u64, high: u64) -> Option<u64> {
+    let padded = value.len() > 1 && value[0] == b'0' && !on(Flip::LeadingZero);
+    let widest = either(Flip::IdOf19, 18, 19);
+    if padded || value.len() > widest || !value.iter().all(u8::is_ascii_digit) {
+        return None;
+    }
+    let number: u64 = std::str::from_utf8(value).ok()?.parse().ok()?;
+    (low..=high).contains(&number).then_some(number)
+}
+
+/// 34: 1 to 4,294,967,295.
+pub fn sequence(value: &[u8]) -> Option<u64> {
+    let least = either(Flip::NumberZero, 1, 0);
+    whole(value, least, either(Flip::NumberPastEnd, LARGEST_NUMBER, LARGEST_NUMBER + 1))
+}
+
+/// 48: 1 to 18 digits, at least 1.
+pub fn security(value: &[u8]) -> Option<u64> {
+    let most = either(Flip::IdOf19, LARGEST_ID, u64::MAX);
+    whole(value, either(Flip::IdZero, 1, 0), most)
+}
+
+/// 270: optional minus, 1 to 9 digits, then nothing or a point and 1 to 7 digits.
+pub fn price(value: &[u8]) -> Option<i64> {
+    let text = std::str::from_utf8(value).ok()?;
+    let (minus, rest) = match text.strip_prefix('-') {
+        Some(rest) => (true, rest),
+        None => (false, text),
+    };
+    let (units, decimals) = match rest.split_once('.') {
+        Some((units, decimals)) => (units, Some(decimals)),
+        None => (rest, None),
+    };
+    let units = price_part(units, either(Flip::TenUnits, 9, 10))?;
+    let parts = match decimals {
+        Some(text) => ten_millionths(text)?,
+        None => 0,
+    };
+    let size = units * ONE + parts;
+    let keep_minus = either(Flip::MinusFraction, true, units != 0);
+    Some(if minus && keep_minus { -size } else { size })
+}
+
+/// 1 to `most` digits, leading zeros allowed.
+fn price_part(text: &str, most: usize) -> Option<i64> {
+    let all_digits = text.bytes().all(|byte| byte.is_ascii_digit());
+    if all_digits && (1..=most).contains(&text.len()) {
+        text.parse().ok()
+    } else {
+        None
+    }
+}
+
+/// 1 to 7 decimals as ten-millionths.
+fn ten_millionths(text: &str) -> Option<i64> {
+    price_part(text, either(Flip::EightDecimals, 7, 8))?;
+    let padded = format!("{text:0<7}");
+    padded[..7].parse().ok()
+}
+
+/// 37, and the writer's sender and target: 1 to 16 bytes, each 33 to 126.
+pub fn name(value: &[u8]) -> Option<String> {
+    let low = either(Flip::OrderIdSpace, 33, 32);
+    let most = either(Flip::OrderIdOf17, 16, 17);
+    let good = value.iter().all(|byte| (low..=126).contains(byte));
+    if good && (1..=most).contains(&value.len()) {
+        String::from_utf8(value.to_vec()).ok()
+    } else {
+        None
+    }
+}

@@ -1,0 +1,63 @@
+//! Shortens a script that shows something: calls are left out, then parts of messages.
+
+use crate::script::Call;
+use crate::shorten::{shorten_changes, shorten_message, without_number};
+
+/// What a shortened list must still show.
+pub type Shows<'a, T> = &'a mut dyn FnMut(&[T]) -> bool;
+
+/// The shortest script found that still shows it: no single call, entry or field of a sound
+/// frame can be left out. Gives the script back as it was if it doesn't show it.
+pub fn shrink(calls: &[Call], shows: Shows<Call>) -> Vec<Call> {
+    let mut kept = shrink_list(calls, shows);
+    leave_out_numbers(&mut kept, shows);
+    for place in 0..kept.len() {
+        shorten_message(&mut kept, place, shows);
+        shorten_changes(&mut kept, place, shows);
+    }
+    leave_out_numbers(&mut kept, shows);
+    shrink_list(&kept, shows)
+}
+
+/// Delta debugging: leaves out ever smaller runs of items while `shows` still holds.
+pub fn shrink_list<T: Clone>(items: &[T], shows: Shows<T>) -> Vec<T> {
+    let mut kept = items.to_vec();
+    if !shows(&kept) {
+        return kept;
+    }
+    let mut run = kept.len().div_ceil(2);
+    while run >= 1 {
+        let before = kept.len();
+        leave_out_runs(&mut kept, run, shows);
+        if run == 1 && kept.len() == before {
+            break;
+        }
+        run = run.div_ceil(2).min(kept.len().div_ceil(2));
+    }
+    kept
+}
+
+/// Tries to leave out each run of `run` items, from the last to the first.
+fn leave_out_runs<T: Clone>(kept: &mut Vec<T>, run: usize, shows: Shows<T>) {
+    let mut end = kept.len();
+    while end > 0 {
+        let start = end.saturating_sub(run);
+        let mut shorter = kept[..start].to_vec();
+        shorter.extend_from_slice(&kept[end..]);
+        if shows(&shorter) {
+            *kept = shorter;
+        }
+        end = start;
+    }
+}
+
+/// Tries to leave out each counted message with the later numbers lowered, so that no gap opens.
+fn leave_out_numbers(kept: &mut Vec<Call>, shows: Shows<Call>) {
+    for place in (0..kept.len()).rev() {
+        if let Some(shorter) = without_number(kept, place) {
+            if shows(&shorter) {
+                *kept = shorter;
+            }
+        }
+    }
+}
