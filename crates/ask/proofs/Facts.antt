@@ -1,33 +1,13 @@
--- What a sound store gives to those who read it.
+-- What a sound store gives to a quote. Assumes nothing.
 use mathlib.Core.Path.{_≡_}
 use mathlib.Core.Bool.{true}
 use mathlib.Core.List.{List}
-use Prim.Native.Nat.{ℕ, _≤_, _<_, _^_}
-use lib.Pow.{pow-mono}
-use native.Mathlib.Omega.{arith}
-use lib.ListN.{getD}
-use Rattle.board.specs.Sound.{Sound}
-use Rattle.store.specs.Layout.{atMarks}
-use Rattle.store.specs.Meaning.{boardOf, boardAt, loaded}
-use Rattle.store.specs.Canon.{Formed}
+use Prim.Native.Nat.{ℕ}
+use Rattle.store.specs.Meaning.{boardOf, loaded}
 use Rattle.sound.specs.Sound.{sound}
-use Rattle.sound.proofs.Laws.{sound-is-canon}
+use Rattle.sound.proofs.Readers.{formed, board}
 use Rattle.quote.specs.Ready.{Ready}
 
--- marks of at most 16 instruments are a number of 16 bits
-pub sixteen : (m f : ℕ) → m < 2 ^ f → f ≤ 16 → m < 65536
-sixteen m f h l = let p : 2 ^ f ≤ 2 ^ 16 = pow-mono l in omega arith
-
-module _ (xs : List ℕ) (s : sound xs ≡ true) where
-  pub formed : Formed (loaded xs)
-  formed = sound-is-canon xs s .0 .formed
-
-  pub board : Sound (boardAt xs)
-  board = sound-is-canon xs s .1
-
-  pub marks : getD xs atMarks 0 < 65536
-  marks = sixteen _ _ (formed .marks) (formed .few)
-
-  pub ready : Ready (loaded xs)
-  unfolding boardOf
-  ready = record { long = formed .long; few = formed .few; heard = board .heard }
+pub ready : (xs : List ℕ) → sound xs ≡ true → Ready (loaded xs)
+unfolding boardOf
+ready xs s = record { long = formed xs s .long; few = formed xs s .few; heard = board xs s .heard }

@@ -1,3 +1,4 @@
 pub mod Stores
 pub mod Tables
 pub mod Windows
+pub mod Runs

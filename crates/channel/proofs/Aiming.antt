@@ -1,33 +1,70 @@
--- One turn of the loop that writes a message's entries as a run, and that a snapshot's sides do not ask whose they are.
+-- One turn of the loop that aims the entries of a run, and that a snapshot's sides do not ask whose they are.
 use mathlib.Core.Path.{_≡_, refl, sym, ap, _∙_}
 use mathlib.Core.Bool.{cond}
 use mathlib.Core.List.{List, [], _∷_, map}
 use Prim.Native.Nat.{ℕ, _+_, _*_, _≤_, _<_}
-use native.Mathlib.Numerals.{add-one}
 use native.Mathlib.Omega.{arith}
 use lib.Dec.{eqb}
-use lib.ListN.{length, getD, take}
-use lib.Seq.{sets, take-suc}
+use lib.ListN.{length, getD, set, length-set}
+use lib.Seq.{getD-set-same, getD-set-other}
 use Rattle.book.specs.declared.Entry.{Entry}
 use Rattle.book.specs.declared.Update.{Update}
 use Rattle.book.specs.Rules.{Lists}
-use Rattle.cells.specs.Cells.{tab, updateAt, updateWords}
+use Rattle.cells.specs.Cells.{tab, updateAt}
 use Rattle.cells.specs.Runs.{updatesIn}
 use Rattle.cells.proofs.Tables.{tab-ext, tab-snoc, map-append}
-use Rattle.cells.proofs.Windows.{same-before, update-ext, update-own}
-use Rattle.board.specs.Board.{Inst}
+use Rattle.cells.proofs.Windows.{entry-ext, update-ext}
+use Rattle.board.specs.Board.{Inst, look}
 use Rattle.board.specs.Count.{aimed}
 use Rattle.board.specs.Snapshot.{entriesOf, shown}
+use Rattle.store.specs.Meaning.{State, boardIn}
+use Rattle.channel.specs.Feeds.{aimedAt, Aims}
 
-pub spread-turn : (run : List ℕ) (f : Update → Update) (us : List Update) (i : ℕ) (z v : Update) → i < length us → i * 9 + 9 ≤ length run
-    → updatesIn run i ≡ map f (take i us) → v ≡ f (getD us i z)
-    → updatesIn (sets run (i * 9) (updateWords v)) (i + 1) ≡ map f (take (i + 1) us)
-spread-turn run f us i z v h l e w =
-    let ys = sets run (i * 9) (updateWords v) in
-    let g : ℕ → Update = λ (k : ℕ). updateAt ys (k * 9) in
-    let b : tab g i ≡ updatesIn run i =
-    tab-ext g _ i (λ k q. update-ext ys (k * 9) run (k * 9) (same-before 9 run (i * 9) (updateWords v) (k * 9) (omega arith))) in
-    tab-snoc g i ∙ rw (b, e, update-own run (i * 9) v l, w, add-one, take-suc us i z h) (sym (map-append f (take i us) (getD us i z ∷ [])))
+-- nothing is aimed yet
+pub aims-none : (s : State) (xs : List ℕ) → Aims s 0 xs xs
+unfolding tab
+aims-none s xs = record { size = refl; entries = refl; behind = λ k l. refl }
+
+-- one entry more: its who is the index k
+module _ (s : State) (i k : ℕ) (xs ys : List ℕ) (h : Aims s i xs ys) (room : i * 9 + 9 ≤ length xs)
+    (found : k ≡ look (getD ys (i * 9) 0) (boardIn s .insts)) where
+  abbrev zs : List ℕ
+  zs = set ys (i * 9) k
+
+  -- what stands elsewhere stays
+  other : (j : ℕ) → (j ≡ i * 9 → ⊥) → getD zs j 0 ≡ getD ys j 0
+  other j d = getD-set-other ys (i * 9) j k 0 d
+
+  later : (j : ℕ) → i * 9 < j → getD zs j 0 ≡ getD xs j 0
+  later j l = other j (λ e. omega arith) ∙ h .behind j (omega arith)
+
+  earlier : tab (λ (j : ℕ). updateAt zs (j * 9)) i ≡ aimedAt s (updatesIn xs i)
+  earlier =
+      tab-ext (λ (j : ℕ). updateAt zs (j * 9)) (λ (j : ℕ). updateAt ys (j * 9)) i
+      (λ j l. update-ext zs (j * 9) ys (j * 9) (λ m q. other (j * 9 + m) (λ e. omega arith))) ∙ h .entries
+
+  own : updateAt zs (i * 9) ≡ aimed (boardIn s .insts) (updateAt xs (i * 9))
+  own =
+      let w : getD zs (i * 9) 0 ≡ look (getD xs (i * 9) 0) (boardIn s .insts) =
+      getD-set-same ys (i * 9) k 0 (omega (arith, h .size)) ∙ rw (h .behind (i * 9) (omega arith)) at found in
+      rw (
+        w,
+        later (i * 9 + 1) (omega arith),
+        later (i * 9 + 2) (omega arith),
+        later (i * 9 + 3) (omega arith),
+        entry-ext zs (i * 9 + 4) xs (i * 9 + 4) (λ m q. later (i * 9 + 4 + m) (omega arith)),
+      )
+
+  pub aims-more : Aims s (i + 1) xs zs
+  aims-more =
+      let f = aimed (boardIn s .insts) in
+      record {
+        size = length-set ys (i * 9) k ∙ h .size;
+        entries =
+            tab-snoc (λ (j : ℕ). updateAt zs (j * 9)) i
+            ∙ rw (earlier, own) (sym (ap (map f) (tab-snoc (λ (j : ℕ). updateAt xs (j * 9)) i) ∙ map-append f (updatesIn xs i) (updateAt xs (i * 9) ∷ [])));
+        behind = λ j l. later j (omega arith);
+      }
 
 entries-aimed : (side : ℕ) (xs : List Inst) (us : List Update) → entriesOf side (map (aimed xs) us) ≡ entriesOf side us
 unfolding entriesOf

@@ -1,15 +1,13 @@
 -- The laws of a message on the store.
 use mathlib.Core.Path.{_≡_, refl, sym, ap, _∙_}
 use mathlib.Core.Bool.{true, _&&_}
-use mathlib.Core.List.{List, [], _∷_, _++_}
-use Prim.Native.Nat.{ℕ, zero, suc, _≤_}
+use mathlib.Core.List.{List, _++_}
+use Prim.Native.Nat.{ℕ}
 use native.Mathlib.Omega.{arith}
 use lib.Dec.{leb}
 use lib.ListN.{length, take, drop, take-append-drop}
 use borrow.Author.Tests.{leb-true}
-use Rattle.book.specs.declared.Update.{Update}
-use Rattle.message.specs.declared.Verdict.the-variants.{Numbered, Snapshot, BadFrame, BadSum, BadType, BadFields}
-use Rattle.message.specs.Message.{Message, numbered, snapshot, refused, answerOf, padded, told}
+use Rattle.message.specs.Message.{Message, numbered, snapshot, refused, answerOf}
 use Rattle.board.specs.Board.{Board, Out}
 use Rattle.board.specs.Feed.{feed}
 use Rattle.board.specs.Ranges.{all, within, mostNumber, idFine, momentFine, updateFine, shownFine, headFine, messageFine}
@@ -23,10 +21,8 @@ use Rattle.store.proofs.Saved.{saved-agree, saved-board, saved-canon}
 use Rattle.sound.specs.Sound.{sound}
 use Rattle.sound.proofs.Laws.{sound-is-canon, sound-is-written, canon-is-sound}
 use Rattle.channel.specs.Feeds.{Feeds}
-use Rattle.channel.specs.Laws.{FineIsFair, ToldIsSaid, ToldFits, Left, SoundIsLeft}
+use Rattle.channel.specs.Laws.{FineIsFair, Left, SoundIsLeft}
 use Rattle.channel.proofs.Beyond.{Within, beyond, feed-within}
-
--- ---- a reading
 
 pub fine-is-fair : FineIsFair
 unfolding messageFine
@@ -34,30 +30,6 @@ fine-is-fair depth (numbered n heard us) e =
     leb-true (length us) 64 (four (within 1 mostNumber n) (momentFine heard) (leb (length us) 64) (all (λ u. idFine (u .who) && updateFine depth u) us) e .2)
 fine-is-fair depth (snapshot h us) e = leb-true (length us) 64 (three (headFine h) (leb (length us) 64) (all (shownFine depth) us) e .1)
 fine-is-fair depth (refused v) e = within-true 11 14 (answerOf v) e .0
-
-take-padded : (k : ℕ) (us : List Update) → length us ≤ k → take (length us) (padded k us) ≡ us
-unfolding padded
-take-padded zero [] h = refl
-take-padded zero (u ∷ us) h = absurd (omega arith)
-take-padded (suc k) [] h = refl
-take-padded (suc k) (u ∷ us) h = ap (λ (l : List Update). u ∷ l) (take-padded k us (omega arith))
-
-pub told-is-said : ToldIsSaid
-unfolding told
-told-is-said (numbered n heard us) f = ap (numbered n heard) (take-padded 64 us f)
-told-is-said (snapshot h us) f = ap (snapshot h) (take-padded 64 us f)
-told-is-said (refused Numbered) f = absurd (omega arith)
-told-is-said (refused Snapshot) f = absurd (omega arith)
-told-is-said (refused BadFrame) f = refl
-told-is-said (refused BadSum) f = refl
-told-is-said (refused BadType) f = refl
-told-is-said (refused BadFields) f = refl
-
-pub told-fits : ToldFits
-unfolding told
-told-fits (numbered n heard us) f = f
-told-fits (snapshot h us) f = f
-told-fits (refused v) f = omega arith
 
 -- ---- a sound store
 

@@ -1,34 +1,22 @@
--- What is shown of a message on the store: a reading says the message that it tells, and a message in range leaves of a sound
--- store the numbers of the board after it, which are sound again.
+-- What is shown of a message on the store: in range it leaves of a sound store the numbers of the board after it, which are
+-- sound again.
 use mathlib.Core.Path.{_≡_}
 use mathlib.Core.Bool.{true}
 use mathlib.Core.List.{List, _++_}
-use Prim.Native.Nat.{ℕ, _≤_}
-use lib.ListN.{length, drop}
-use Rattle.message.specs.Message.{Message, numbered, snapshot, refused, answerOf, told}
+use Prim.Native.Nat.{ℕ}
+use lib.ListN.{drop}
+use Rattle.message.specs.Message.{Message}
+use Rattle.message.specs.Laws.{Fair}
 use Rattle.board.specs.Feed.{feed}
 use Rattle.board.specs.Ranges.{messageFine}
 use Rattle.store.specs.Layout.{storeSize}
 use Rattle.store.specs.Meaning.{State, boardAt, loaded, saved, written}
 use Rattle.sound.specs.Sound.{sound}
-use Rattle.channel.specs.Feeds.{said, Feeds}
+use Rattle.channel.specs.Feeds.{Feeds}
 
--- A message has at most 64 entries, and one that is not read is 11 to 14.
-abbrev pub Fair : Message → Type 0
-Fair (numbered n heard us) = length us ≤ 64
-Fair (snapshot h us) = length us ≤ 64
-Fair (refused v) = 11 ≤ answerOf v
-
--- A message in range is such a message.
+-- A message in range has at most 64 entries, or is not read for one of 11 to 14.
 abbrev pub FineIsFair : Type 0
 FineIsFair = (depth : ℕ) (m : Message) → messageFine depth m ≡ true → Fair m
-
--- A reading that tells a message says it, and has at most 64 entries.
-abbrev pub ToldIsSaid : Type 0
-ToldIsSaid = (m : Message) → Fair m → said (told m) ≡ m
-
-abbrev pub ToldFits : Type 0
-ToldFits = (m : Message) → Fair m → told m .count ≤ 64
 
 -- What a message leaves of a store xs: the answer; the numbers of the board after it, with those beyond the 7,168 as they
 -- were; that they are read as that board; and that they are sound.

@@ -5,6 +5,9 @@ ghost use Rattle.feed.specs.Feeding.{Fed};
 // The Waiting count stands above the answer.
 const ABOVE: u64 = 256;
 
+// The numbers of the most entries that a message has, 64 of 9 each.
+const RUN: usize = 576;
+
 // Reads the bytes of a message and gives the message to the board in the store. The answer is document 01's number and 256
 // times how many instruments wait afterwards.
 pub fn feed(store: &mut [u64], message: &[u8]) -> u64
@@ -14,8 +17,9 @@ pub fn feed(store: &mut [u64], message: &[u8]) -> u64
         return store::BAD_STORE;
     }
     let h = store::load_heading(store);
-    let r = fields::read(message, h.depth);
-    let f = channel::feed_read(store, h, r);
+    let mut run = [0u64; RUN];
+    let r = fields::read(message, h.depth, &mut run);
+    let f = channel::feed_read(store, h, r, &mut run);
     let g = f.head;
     let n = store::waiting(store, g);
     store::save_heading(store, g);

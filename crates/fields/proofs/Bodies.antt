@@ -1,19 +1,18 @@
 -- The fields between 35 and 10 as the code takes them: what stands before 268, then the rest. Assumes nothing.
 use mathlib.Core.Path.{_≡_, refl, sym, ap, _∙_}
 use mathlib.Core.List.{List, [], _∷_}
-use mathlib.Core.Bool.{Bool, true, false, cond, not, _&&_, _||_}
+use mathlib.Core.Bool.{Bool, true, false, cond, _&&_}
 use mathlib.Core.Option.{Option, none, some}
 use Prim.Native.Nat.{ℕ, _+_, _-_, _≤_, _<_}
 use native.Mathlib.Omega.{arith}
 use borrow.Author.Tests.{eqb-true, eq-eqb, ne-eqb}
 use lib.Dec.{eqb}
-use lib.ListN.{length, drop}
+use lib.ListN.{length}
 use Rattle.digits.specs.Digits.{rangedOf, wholeOf, digitsOf}
 use Rattle.digits.specs.declared.Number.{Number}
 use Rattle.digits.proofs.Width.{both}
 use Rattle.book.specs.declared.Update.{Update}
-use Rattle.message.specs.Message.{Head, Message, numbered, snapshot, refused, padded, told}
-use Rattle.message.specs.declared.Verdict.{Verdict}
+use Rattle.message.specs.Message.{Head, Message, numbered, snapshot, told}
 use Rattle.message.specs.declared.Verdict.the-variants.{Numbered, Snapshot, BadFrame, BadSum, BadType, BadFields}
 use Rattle.frame.specs.Fields.{Field, fieldsOf}
 use Rattle.frame.specs.Bytes.{fair, allFair}
@@ -24,10 +23,10 @@ use Rattle.frame.specs.Places.{part, fieldAt, isSome, given, left}
 use Rattle.frame.specs.declared.Step.{Step}
 use Rattle.frame.proofs.Walk.{walk-on, walked}
 use Rattle.frame.proofs.Inverse.{fields-only, fair-is}
-use Rattle.tags.specs.Tags.{namedTags, otherTags, headX, headW, entryX, entryW, has, stands, tidy, allTidy, upTo, past, onward, parts, lookup}
+use Rattle.tags.specs.Tags.{namedTags, otherTags, headX, headW, entryX, entryW, has, tidy, allTidy, upTo, past, onward, parts, lookup}
 use Rattle.tags.specs.Slots.{slotOf, below, between, marked, Holds, Chained}
 use Rattle.tags.specs.declared.Marks.{Marks}
-use Rattle.entries.specs.Values.{_>>=_, need, Values, number, seqAt, heardAt, instrumentAt, lastAt, loopsAt, instrumentOf}
+use Rattle.entries.specs.Values.{_>>=_, need, Values, number, seqAt, heardAt, instrumentAt, lastAt, loopsAt}
 use Rattle.entries.specs.Entries.{entryInX, entryInW}
 use Rattle.entries.proofs.Same.{instrument-same}
 use Rattle.fields.specs.Messages.{otherOf, groupOf, each, changesOf, headOf, running, firsts, snapshotOf, orBadFields, typedAs, messageIn}

@@ -1,25 +1,24 @@
--- What leads to the entries: nothing does at the end, and what is led to may be said in other words. Assumes nothing.
+-- What leads to the entries: nothing does at the end, and what is led to and what is read may be said in other words. Assumes nothing.
 use mathlib.Core.Path.{_≡_, refl, ap, _∙_}
-use mathlib.Core.Bool.{true}
 use mathlib.Core.List.{List, []}
-use mathlib.Core.Option.{Option, some}
-use Prim.Native.Nat.{ℕ, _≤_}
+use mathlib.Core.Option.{some}
+use Prim.Native.Nat.{ℕ}
 use native.Mathlib.Omega.{arith}
-use lib.ListN.{length, drop, drop-of-length-le}
-use Rattle.book.specs.declared.Update.{Update}
-use Rattle.message.specs.Message.{padded}
-use Rattle.message.specs.declared.Verdict.{Verdict}
+use lib.ListN.{length, drop-of-length-le}
+use Rattle.message.specs.Message.{Told}
 use Rattle.message.specs.declared.Reading.{Reading}
+use Rattle.message.specs.declared.Verdict.{Verdict}
 use Rattle.frame.specs.Fields.{cut, fieldsOf}
-use Rattle.frame.specs.Places.{isSome, left}
+use Rattle.frame.specs.Places.{left}
 use Rattle.frame.proofs.Walk.{walked}
 use Rattle.tags.specs.Tags.{has}
 use Rattle.tags.specs.Slots.{between, Chained}
 use Rattle.fields.specs.Messages.{firsts}
 use Rattle.fields.specs.Groups.{bareOf, Fair, grouped, answered, Leads}
+use Rattle.fields.specs.Reads.{Reads}
 use Rattle.fields.specs.declared.Lead.{Lead}
 use Rattle.fields.specs.declared.Top.{Top}
-use Rattle.fields.proofs.Grouping.{outside, group-start, at-end}
+use Rattle.fields.proofs.Grouping.{group-start, at-end}
 
 abbrev topOf : Verdict → ℕ → ℕ → Top
 topOf v n heard = record { verdict = v; first = 279; low = 8; number = n; heard = heard; id = 0; last = 0; loops = 0 }
@@ -51,5 +50,9 @@ alone-leads s v n heard =
     }
 
 -- in other words
-pub leads-as : {s : List ℕ} {l : Lead} {f : ℕ → Reading} → Leads s l f → (g : ℕ → Reading) → ((depth : ℕ) → f depth ≡ g depth) → Leads s l g
+pub leads-as : {s : List ℕ} {l : Lead} {f : ℕ → Told} → Leads s l f → (g : ℕ → Told) → ((depth : ℕ) → f depth ≡ g depth) → Leads s l g
 leads-as h g q = record { chained = h .chained; fair = h .fair; few = h .few; says = λ depth. h .says depth ∙ q depth }
+
+pub reads-as : {t u : Told} {r : Reading} {xs ys : List ℕ} → Reads t r xs ys → t ≡ u → Reads u r xs ys
+reads-as h q =
+    record { reading = h .reading ∙ ap (λ (t : Told). t .reading) q; entries = h .entries ∙ ap (λ (t : Told). t .entries) q; size = h .size }

@@ -1,4 +1,3 @@
-pub mod Padding
 pub mod Grouping
 pub mod Listing
 pub mod Leading

@@ -4,19 +4,24 @@ use mathlib.Core.List.{List, [], _∷_, _++_}
 use mathlib.Core.Bool.{Bool, true, false, cond, not, _||_, false≢true}
 use mathlib.Core.Logic.{_⊎_, inl, inr}
 use mathlib.Core.Option.{Option, none, some}
-use Prim.Native.Nat.{ℕ, suc, _+_, _-_, _≤_, _<_}
+use Prim.Native.Nat.{ℕ, _+_, _*_, _-_, _≤_, _<_}
 use native.Mathlib.Omega.{arith}
 use borrow.Author.Tests.{eqb-true, eqb-false, lt-ltb, le-ltb}
-use lib.Dec.{ltb, leb, eqb}
-use lib.ListN.{length, getD, set, replicate, length-append, getD-replicate}
+use lib.Dec.{eqb}
+use lib.ListN.{length, getD, set, getD-replicate}
+use lib.Seq.{sets, length-sets}
 use Rattle.book.specs.declared.Update.{Update}
-use Rattle.message.specs.Message.{noUpdate, padded}
+use Rattle.message.specs.Message.{told}
 use Rattle.message.specs.declared.Reading.{Reading}
-use Rattle.message.specs.declared.Verdict.{Verdict}
+use Rattle.message.specs.declared.Verdict.the-variants.{BadFields}
+use Rattle.cells.specs.Cells.{updateWords, updateAt}
+use Rattle.cells.specs.Runs.{updatesIn}
+use Rattle.cells.proofs.Tables.{length-tab}
+use Rattle.cells.proofs.Runs.{no-updates, one-more}
 use Rattle.frame.specs.Fields.{Field, field}
 use Rattle.frame.specs.Places.{part, fieldAt, left}
 use Rattle.frame.specs.declared.Step.{Step}
-use Rattle.frame.proofs.Walk.{On, walk-on, walked, Found, found}
+use Rattle.frame.proofs.Walk.{On, walk-on, walked, found}
 use Rattle.tags.specs.Tags.{namedTags, has, stands, tidy, upTo, lookup}
 use Rattle.tags.specs.Slots.{slotOf, below, between, noMarks, marked, strays, Holds, Chained}
 use Rattle.tags.specs.declared.Marks.{Marks}
@@ -24,13 +29,12 @@ use Rattle.tags.proofs.Slots.{has-below}
 use Rattle.tags.proofs.Marking.{none-held, held-more}
 use Rattle.tags.proofs.Tidiness.{fits, fits-test, tidy-one, tidy-more}
 use Rattle.tags.proofs.Walking.{unseen}
-use Rattle.entries.specs.Values.{_>>=_, Values}
 use Rattle.entries.proofs.Same.{x-same, w-same}
 use Rattle.fields.specs.Messages.{nextAfter, firsts}
 use Rattle.fields.specs.Groups.{bareOf, entryIn, entryNext, Fair, grouped, answered}
+use Rattle.fields.specs.Reads.{runSize, Reads}
 use Rattle.fields.specs.declared.Next.{Next}
 use Rattle.fields.specs.declared.Top.{Top}
-use Rattle.fields.proofs.Padding.{padded-none, padded-length, padded-more}
 use Rattle.fields.proofs.Grouping.{outside, inside, group-start, at-end, too-few, passed-over, not-there, too-many, begins, goes-on, breaks, starts-none, starts-first, entry-bad, entry-passed, entry-said}
 
 -- all the named tags
@@ -50,23 +54,19 @@ pub entry-same : (depth : ℕ) (t : Top) (next : Next) (s : List ℕ) (m : Marks
 unfolding entryNext entryIn
 entry-same depth t next s m e h = rw (x-same (marked s m) (lookup e) (h .text) depth, w-same (marked s m) (lookup e) (h .text) depth (t .id))
 
--- ---- what was said so far, with room for those that are to come
-pub record Kept (us : List Update) (n : ℕ) (next : Next) (more : ℕ) : Type 0 where
-  pub said : List Update
-  pub size : n ≡ length said
-  pub items : us ≡ padded 64 said
+-- ---- in the run stands what was said so far, with room for those that are to come
+pub record Kept (run : List ℕ) (n : ℕ) (next : Next) (more : ℕ) : Type 0 where
+  pub wide : runSize ≤ length run
   pub room : n + more ≤ 64
   pub bid : next .bid ≤ n + 1
   pub offer : next .offer ≤ n + 1
 
-pub kept-none : (us : List Update) (more : ℕ) → us ≡ replicate 64 noUpdate → more ≤ 64 → Kept us 0 firsts more
-kept-none us more q l =
-    record { said = []; size = refl; items = q ∙ sym (padded-none 64); room = omega arith; bid = omega arith; offer = omega arith }
+kept-none : (run : List ℕ) (more : ℕ) → runSize ≤ length run → more ≤ 64 → Kept run 0 firsts more
+kept-none run more w l = record { wide = w; room = omega arith; bid = omega arith; offer = omega arith }
 
 -- fewer are to come
-pub kept-less : (us : List Update) (n : ℕ) (next : Next) (more : ℕ) → Kept us n next more → Kept us n next (more - 1)
-kept-less us n next more k =
-    record { said = k .said; size = k .size; items = k .items; room = omega (arith, k .room); bid = k .bid; offer = k .offer }
+kept-less : (run : List ℕ) (n : ℕ) (next : Next) (more : ℕ) → Kept run n next more → Kept run n next (more - 1)
+kept-less run n next more k = record { wide = k .wide; room = omega (arith, k .room); bid = k .bid; offer = k .offer }
 
 next-most : (next : Next) (side n : ℕ) → next .bid ≤ n + 1 → next .offer ≤ n + 1
     → (nextAfter next side .bid ≤ n + 1 + 1) × (nextAfter next side .offer ≤ n + 1 + 1)
@@ -80,106 +80,23 @@ next-most next side n p q = go (eqb side 0)
     go false = (omega arith, omega arith)
 
 -- one more was said
-pub kept-more : (us : List Update) (n : ℕ) (next : Next) (more : ℕ) (k : Kept us n next more) (u : Update) → n < 64
-    → n + more < 64 → Kept (set us n u) (n + 1) (nextAfter next (u .what)) more
-kept-more us n next more k u l g =
+kept-more : (run : List ℕ) (n : ℕ) (next : Next) (more : ℕ) → Kept run n next more → (u : Update) → n + more < 64
+    → Kept (sets run (n * 9) (updateWords u)) (n + 1) (nextAfter next (u .what)) more
+kept-more run n next more k u l =
     let b = next-most next (u .what) n (k .bid) (k .offer) in
-    record {
-      said = k .said ++ (u ∷ []);
-      size = omega (arith, k .size, length-append (k .said) (u ∷ []));
-      items = rw (k .items, k .size) (padded-more 64 (k .said) u (omega (arith, k .size)));
-      room = omega arith;
-      bid = b .0;
-      offer = b .1;
-    }
+    record { wide = omega (arith, k .wide, length-sets run (n * 9) (updateWords u)); room = omega arith; bid = b .0; offer = b .1 }
 
--- the array has its 64 places
-pub kept-length : (us : List Update) (n : ℕ) (next : Next) (more : ℕ) → Kept us n next more → length us ≡ 64
-kept-length us n next more k = ap length (k .items) ∙ padded-length 64 (k .said)
-
--- the reading that it makes
-kept-answer : (t : Top) (us : List Update) (n : ℕ) (next : Next) (more : ℕ) (k : Kept us n next more)
-    → record {
-      verdict = t .verdict;
-      number = t .number;
-      heard = t .heard;
-      id = t .id;
-      last = t .last;
-      loops = t .loops;
-      count = n;
-      updates = us;
-    } ≡ answered t (some (k .said))
+-- ---- what is left of the run xs, where the group is good and where it is not
+pub group-reads : (t : Top) (o : Option (List Update)) (xs ys : List ℕ) (n : ℕ) → o ≡ some (updatesIn ys n) → length ys ≡ length xs
+    → Reads (answered t o) (record { verdict = t .verdict; number = t .number; heard = t .heard; id = t .id; last = t .last; loops = t .loops; count = n }) xs ys
 unfolding answered
-kept-answer t us n next more k = rw (k .size, k .items)
+group-reads t o xs ys n q l =
+    rw q (record { reading = rw (length-tab (λ (i : ℕ). updateAt ys (i * 9)) n); entries = refl; size = l })
 
--- what stands before the group is in the reading from the start
-pub record Heads (t : Top) (r : Reading) : Type 0 where
-  pub verdict : r .verdict ≡ t .verdict
-  pub number : r .number ≡ t .number
-  pub heard : r .heard ≡ t .heard
-  pub id : r .id ≡ t .id
-  pub last : r .last ≡ t .last
-  pub loops : r .loops ≡ t .loops
-
-pub bare-items : (r : Reading) (v : Verdict) (n heard : ℕ) → r ≡ bareOf v n heard → r .updates ≡ replicate 64 noUpdate
-unfolding bareOf
-bare-items r v n heard e = ap (λ (r : Reading). r .updates) e ∙ padded-none 64
-
-pub heads-start : (t : Top) (r : Reading) → r ≡ bareOf (t .verdict) (t .number) (t .heard)
-    → Heads t (record {
-      verdict = r .verdict;
-      number = r .number;
-      heard = r .heard;
-      id = t .id;
-      last = t .last;
-      loops = t .loops;
-      count = r .count;
-      updates = r .updates;
-    })
-unfolding bareOf
-heads-start t r e =
-    record {
-      verdict = ap (λ (r : Reading). r .verdict) e;
-      number = ap (λ (r : Reading). r .number) e;
-      heard = ap (λ (r : Reading). r .heard) e;
-      id = refl;
-      last = refl;
-      loops = refl;
-    }
-
--- and stays there
-pub heads-set : {t : Top} {r : Reading} (us : List Update) → Heads t r
-    → Heads t (record {
-      verdict = r .verdict;
-      number = r .number;
-      heard = r .heard;
-      id = r .id;
-      last = r .last;
-      loops = r .loops;
-      count = r .count;
-      updates = us;
-    })
-heads-set us h =
-    record { verdict = h .verdict; number = h .number; heard = h .heard; id = h .id; last = h .last; loops = h .loops }
-
-same-reading : {v w : Verdict} {a b c d e f g h i j : ℕ} (n : ℕ) (us : List Update) → v ≡ w → a ≡ b → c ≡ d → e ≡ f → g ≡ h → i ≡ j
-    → _≡_ {A = Reading} (record { verdict = v; number = a; heard = c; id = e; last = g; loops = i; count = n; updates = us })
-    (record { verdict = w; number = b; heard = d; id = f; last = h; loops = j; count = n; updates = us })
-same-reading n us p q r s t u = cc
-
-pub heads-answer : (t : Top) (r : Reading) (n : ℕ) (next : Next) (more : ℕ) (k : Kept (r .updates) n next more) → Heads t r
-    → record {
-      verdict = r .verdict;
-      number = r .number;
-      heard = r .heard;
-      id = r .id;
-      last = r .last;
-      loops = r .loops;
-      count = n;
-      updates = r .updates;
-    } ≡ answered t (some (k .said))
-heads-answer t r n next more k h =
-    same-reading n (r .updates) (h .verdict) (h .number) (h .heard) (h .id) (h .last) (h .loops) ∙ kept-answer t (r .updates) n next more k
+pub none-reads : (t : Top) (o : Option (List Update)) (xs ys : List ℕ) (r : Reading) → o ≡ none → r ≡ bareOf BadFields 0 0 .reading
+    → length ys ≡ length xs → Reads (answered t o) r xs ys
+unfolding answered bareOf told
+none-reads t o xs ys r q e l = rw (q, e) (record { reading = refl; entries = no-updates ys; size = l })
 
 -- ---- where the walk has ended, and whether all is good
 pub record Ended (good : Bool) (o : Option (List Update)) (us : List Update) : Type 0 where
@@ -206,34 +123,39 @@ module _ (s : List ℕ) (start count depth : ℕ) (t : Top) where
   ours = between (t .low) 20
 
   -- between two entries, or before the first
-  pub record Lists (us : List Update) (n : ℕ) (next : Next) (more : ℕ) (good : Bool) (at : ℕ) : Type 0 where
+  pub record Lists (run : List ℕ) (n : ℕ) (next : Next) (more : ℕ) (good : Bool) (at : ℕ) : Type 0 where
     pub fair : Fair t
     pub chained : Chained s at
-    pub kept : Kept us n next more
+    pub kept : Kept run n next more
     pub bad : good ≡ false
-    pub same : whole ≡ outside depth t more next (kept .said) (left s at)
+    pub same : whole ≡ outside depth t more next (updatesIn run n) (left s at)
 
   -- in an entry that started before start'
-  pub record Enters (us : List Update) (n : ℕ) (next : Next) (more : ℕ) (good : Bool) (from : ℕ) (at : ℕ) (m : Marks) : Type 0 where
+  pub record Enters (run : List ℕ) (n : ℕ) (next : Next) (more : ℕ) (good : Bool) (from : ℕ) (at : ℕ) (m : Marks) : Type 0 where
     pub fair : Fair t
     pub chained : Chained s at
-    pub kept : Kept us n next more
+    pub kept : Kept run n next more
     pub space : n + more < 64
     pub bad : good ≡ false
     pub onward : from ≤ at
     pub passed : List Field
     pub holds : Holds 21 s m passed
     pub tidy : tidy namedTags ours passed ≡ true
-    pub same : whole ≡ inside depth t more next (kept .said) passed (left s at)
+    pub same : whole ≡ inside depth t more next (updatesIn run n) passed (left s at)
 
-  pub lists-start : (us : List Update) → us ≡ replicate 64 noUpdate → Chained s start → Fair t → count ≤ 64 → Lists us 0 firsts count false start
-  unfolding kept-none
-  lists-start us q h f l =
-      record { fair = f; chained = h; kept = kept-none us count q l; bad = refl; same = group-start depth t count (left s start) }
+  pub lists-start : (run : List ℕ) → runSize ≤ length run → Chained s start → Fair t → count ≤ 64 → Lists run 0 firsts count false start
+  lists-start run w h f l =
+      record {
+        fair = f;
+        chained = h;
+        kept = kept-none run count w l;
+        bad = refl;
+        same = group-start depth t count (left s start) ∙ ap (λ (us : List Update). outside depth t count firsts us (left s start)) (sym (no-updates run));
+      }
 
-  module _ (us : List Update) (n : ℕ) (next : Next) (more : ℕ) (good : Bool) (at : ℕ) (w : Lists us n next more good at) where
+  module _ (run : List ℕ) (n : ℕ) (next : Next) (more : ℕ) (good : Bool) (at : ℕ) (w : Lists run n next more good at) where
     abbrev said : List Update
-    said = w .kept .said
+    said = updatesIn run n
 
     -- the trailer
     pub all-there : length s ≤ at → more ≡ 0 → whole ≡ some said
@@ -255,7 +177,7 @@ module _ (s : List ℕ) (start count depth : ℕ) (t : Top) where
       pub early : (tag ≡ t .first → ⊥) → (k : ℕ) → k ≡ slotOf tag → k < 21 → whole ≡ none
       early q k e g = first ∙ not-there depth t more next said f (left s (to + 1)) q (named-is tag k e g)
 
-      pub lists-skip : (tag ≡ t .first → ⊥) → (k : ℕ) → k ≡ slotOf tag → 21 ≤ k → Lists us n next more good (to + 1)
+      pub lists-skip : (tag ≡ t .first → ⊥) → (k : ℕ) → k ≡ slotOf tag → 21 ≤ k → Lists run n next more good (to + 1)
       lists-skip q k e g =
           record {
             fair = w .fair;
@@ -279,14 +201,13 @@ module _ (s : List ℕ) (start count depth : ℕ) (t : Top) where
           go false = refl
 
       pub lists-enter : tag ≡ t .first → (more ≡ 0 → ⊥) → (k : ℕ) → k ≡ slotOf tag → k ≤ 21 → (m : Marks) → m ≡ noMarks
-          → Enters us n next (more - 1) good (to + 1) (to + 1) (record { from = set (m .from) k from; to = set (m .to) k to })
-      unfolding kept-less
+          → Enters run n next (more - 1) good (to + 1) (to + 1) (record { from = set (m .from) k from; to = set (m .to) k to })
       lists-enter q z k e b m r =
           let p = found s at step in
           record {
             fair = w .fair;
             chained = on .good;
-            kept = kept-less us n next more (w .kept);
+            kept = kept-less run n next more (w .kept);
             space = omega (arith, w .kept .room);
             bad = w .bad;
             onward = omega arith;
@@ -296,7 +217,10 @@ module _ (s : List ℕ) (start count depth : ℕ) (t : Top) where
             same = first ∙ begins depth t more next said f (left s (to + 1)) q z;
           }
 
-  module _ (us : List Update) (n : ℕ) (next : Next) (more : ℕ) (good : Bool) (from' at : ℕ) (m : Marks) (w : Enters us n next more good from' at m) where
+  module _ (run : List ℕ) (n : ℕ) (next : Next) (more : ℕ) (good : Bool) (from' at : ℕ) (m : Marks) (w : Enters run n next more good from' at m) where
+    abbrev so-far : List Update
+    so-far = updatesIn run n
+
     module _ (tag from to : ℕ) (l : at < length s) (step : fieldAt s at ≡ Step.Is tag from to) where
       here : On s at tag from to
       here = walk-on s at (w .chained) l step
@@ -307,15 +231,15 @@ module _ (s : List ℕ) (start count depth : ℕ) (t : Top) where
             ap (λ (named : List ℕ). fits named ours (w .passed) (field tag (part from to s))) (sym all-named)
             ∙ rw e (fits-test s m (w .passed) 21 (t .low) 20 (w .holds) (omega arith) (omega arith) (field tag (part from to s)))
 
-        next-field : whole ≡ inside depth t more next (w .kept .said) (w .passed) (field tag (part from to s) ∷ left s (to + 1))
-        next-field = w .same ∙ ap (inside depth t more next (w .kept .said) (w .passed)) (here .cons)
+        next-field : whole ≡ inside depth t more next so-far (w .passed) (field tag (part from to s) ∷ left s (to + 1))
+        next-field = w .same ∙ ap (inside depth t more next so-far (w .passed)) (here .cons)
 
         pub strayed : strays k 21 (t .low) 20 (getD (m .to) k 0) ≡ true → whole ≡ none
         strayed h =
-            next-field ∙ breaks depth t more next (w .kept .said) (w .passed) (field tag (part from to s)) (left s (to + 1)) q (test ∙ ap not h)
+            next-field ∙ breaks depth t more next so-far (w .passed) (field tag (part from to s)) (left s (to + 1)) q (test ∙ ap not h)
 
         pub enters-more : strays k 21 (t .low) 20 (getD (m .to) k 0) ≡ false → k ≤ 21
-            → Enters us n next more good from' (to + 1) (record { from = set (m .from) k from; to = set (m .to) k to })
+            → Enters run n next more good from' (to + 1) (record { from = set (m .from) k from; to = set (m .to) k to })
         enters-more h b =
             let p = found s at step in
             let f = field tag (part from to s) in
@@ -329,7 +253,7 @@ module _ (s : List ℕ) (start count depth : ℕ) (t : Top) where
               passed = w .passed ++ (f ∷ []);
               holds = held-more 21 s m (w .passed) (omega arith) (w .holds) tag k from to e b (unseen k 21 (t .low) 20 (getD (m .to) k 0) h) (p .some) (p .high);
               tidy = tidy-more namedTags ours (w .passed) f (w .tidy) (test ∙ ap not h);
-              same = next-field ∙ goes-on depth t more next (w .kept .said) (w .passed) f (left s (to + 1)) q;
+              same = next-field ∙ goes-on depth t more next so-far (w .passed) f (left s (to + 1)) q;
             }
 
       pub stops-first : tag ≡ t .first → upTo (t .first) (left s at) ≡ []
@@ -344,26 +268,29 @@ module _ (s : List ℕ) (start count depth : ℕ) (t : Top) where
       read = entry-same depth t next s m (w .passed) (w .holds)
 
       pub ended-bad : entryNext depth t next (marked s m) ≡ none → whole ≡ none
-      ended-bad h = w .same ∙ entry-bad depth t more next (w .kept .said) (w .passed) (left s at) (w .tidy) stop (sym read ∙ h)
+      ended-bad h = w .same ∙ entry-bad depth t more next so-far (w .passed) (left s at) (w .tidy) stop (sym read ∙ h)
 
-      pub ended-passed : entryNext depth t next (marked s m) ≡ some none → Lists us n next more good at
+      pub ended-passed : entryNext depth t next (marked s m) ≡ some none → Lists run n next more good at
       ended-passed h =
           record {
             fair = w .fair;
             chained = w .chained;
             kept = w .kept;
             bad = w .bad;
-            same = w .same ∙ entry-passed depth t more next (w .kept .said) (w .passed) (left s at) (w .tidy) stop (sym read ∙ h);
+            same = w .same ∙ entry-passed depth t more next so-far (w .passed) (left s at) (w .tidy) stop (sym read ∙ h);
           }
 
       pub ended-said : (u : Update) → entryNext depth t next (marked s m) ≡ some (some u) → (next' : Next) → next' ≡ nextAfter next (u .what)
-          → Lists (set us n u) (n + 1) next' more good at
-      unfolding kept-more
-      ended-said u h next' q =
-          rw q (record {
+          → (ys : List ℕ) → ys ≡ sets run (n * 9) (updateWords u) → Lists ys (n + 1) next' more good at
+      ended-said u h next' q ys e =
+          let more-said = one-more run n u (omega (arith, w .space, w .kept .wide)) in
+          rw (q, e) (record {
             fair = w .fair;
             chained = w .chained;
-            kept = kept-more us n next more (w .kept) u (omega (arith, w .space)) (w .space);
+            kept = kept-more run n next more (w .kept) u (w .space);
             bad = w .bad;
-            same = w .same ∙ entry-said depth t more next (w .kept .said) (w .passed) (left s at) (w .tidy) stop u (sym read ∙ h);
+            same =
+                w .same
+                ∙ entry-said depth t more next so-far (w .passed) (left s at) (w .tidy) stop u (sym read ∙ h)
+                ∙ ap (λ (us : List Update). outside depth t more (nextAfter next (u .what)) us (left s at)) (sym more-said);
           })

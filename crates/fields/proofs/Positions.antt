@@ -1,22 +1,17 @@
--- An entry with its position, as X and W have it; what stands before a group; readings without updates. Assumes nothing.
-use mathlib.Core.Path.{_≡_, refl, ap, _∙_}
-use mathlib.Core.Bool.{Bool, true, false, cond, _||_}
+-- An entry with its position, as X and W have it; what stands before a group; answers without entries. Assumes nothing.
+use mathlib.Core.Path.{_≡_, refl, _∙_}
 use mathlib.Core.Option.{Option, none, some}
 use Prim.Native.Nat.{ℕ}
 use native.Mathlib.Omega.{arith}
 use borrow.Author.Tests.{eq-eqb, ne-eqb}
-use lib.Dec.{eqb}
 use Rattle.book.specs.declared.Update.{Update}
-use Rattle.message.specs.Message.{refused, padded, told}
+use Rattle.message.specs.Message.{refused, told}
 use Rattle.message.specs.declared.Verdict.{Verdict}
 use Rattle.message.specs.declared.Verdict.the-variants.{BadFields}
-use Rattle.tags.specs.Tags.{has, entryX, entryW}
-use Rattle.tags.specs.Slots.{between}
-use Rattle.entries.specs.Values.{_>>=_, need, Values, instrumentOf, number}
+use Rattle.entries.specs.Values.{_>>=_, Values}
 use Rattle.entries.specs.Entries.{entryInX, entryInW}
-use Rattle.entries.proofs.Same.{instrument-same}
 use Rattle.fields.specs.Messages.{nextOn}
-use Rattle.fields.specs.Groups.{bareOf, topX, topW, topped, entryIn, atNext, entryNext, Fair, answered}
+use Rattle.fields.specs.Groups.{bareOf, topped, entryIn, atNext, entryNext, answered}
 use Rattle.fields.specs.declared.Next.{Next}
 use Rattle.fields.specs.declared.Top.{Top}
 use Rattle.fields.specs.declared.Topped.{Topped}

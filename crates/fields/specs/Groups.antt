@@ -2,15 +2,14 @@
 use Prim.Native.Nat.{ℕ, _≤_}
 use mathlib.Core.Path.{_≡_}
 use mathlib.Core.List.{List, [], _∷_}
-use mathlib.Core.Bool.{Bool, true, false, cond, _&&_, _||_}
+use mathlib.Core.Bool.{Bool, true, cond, _&&_, _||_}
 use mathlib.Core.Option.{Option, none, some}
 use lib.Dec.{eqb}
 use lib.ListN.{length}
 use Rattle.book.specs.declared.Update.{Update}
-use Rattle.message.specs.Message.{Message, refused, padded, told}
+use Rattle.message.specs.Message.{Told, refused, told}
 use Rattle.message.specs.declared.Verdict.{Verdict}
 use Rattle.message.specs.declared.Verdict.the-variants.{Numbered, Snapshot, BadFields}
-use Rattle.message.specs.declared.Reading.{Reading}
 use Rattle.digits.specs.Digits.{rangedOf}
 use Rattle.frame.specs.Fields.{Field}
 use Rattle.tags.specs.Tags.{namedTags, has, tidy, allTidy, upTo, parts}
@@ -25,10 +24,10 @@ use Rattle.fields.specs.declared.Next.{Next}
 use Rattle.fields.specs.declared.Top.{Top}
 use Rattle.fields.specs.declared.Topped.{Topped}
 
--- A reading without updates.
-unfoldable pub bareOf : Verdict → ℕ → ℕ → Reading
+-- What is answered without entries.
+unfoldable pub bareOf : Verdict → ℕ → ℕ → Told
 bareOf verdict n heard =
-    record { verdict = verdict; number = n; heard = heard; id = 0; last = 0; loops = 0; count = 0; updates = padded 64 [] }
+    record { reading = record { verdict = verdict; number = n; heard = heard; id = 0; last = 0; loops = 0; count = 0 }; entries = [] }
 
 -- What stands before the group of an X, and of a W.
 unfoldable pub topX : Values → Option Top
@@ -80,24 +79,26 @@ unfoldable pub counted : ℕ → Top → List Field → Option (List Update)
 counted depth t [] = none
 counted depth t (f ∷ fs) = number (rangedOf 2 0 64 (f .text)) >>= λ n. grouped depth t n fs
 
--- The reading of a group.
-unfoldable pub answered : Top → Option (List Update) → Reading
+-- What is answered for a group.
+unfoldable pub answered : Top → Option (List Update) → Told
 answered t none = told (refused BadFields)
 answered t (some us) =
     record {
-      verdict = t .verdict;
-      number = t .number;
-      heard = t .heard;
-      id = t .id;
-      last = t .last;
-      loops = t .loops;
-      count = length us;
-      updates = padded 64 us;
+      reading = record {
+        verdict = t .verdict;
+        number = t .number;
+        heard = t .heard;
+        id = t .id;
+        last = t .last;
+        loops = t .loops;
+        count = length us;
+      };
+      entries = us;
     }
 
 -- What leads to the entries of fields: they start at a place of the chain, 268 says at most 64, and what they give, on a
 -- channel of each depth kind, is f.
-pub record Leads (s : List ℕ) (l : Lead) (f : ℕ → Reading) : Type 0 where
+pub record Leads (s : List ℕ) (l : Lead) (f : ℕ → Told) : Type 0 where
   pub chained : Chained s (l .at)
   pub fair : Fair (l .top)
   pub few : l .count ≤ 64

@@ -3,13 +3,14 @@
 // entry of the group is another. What a place holds is marked, and what it needs is read when it ends.
 ghost use mathlib.Core.Path.{_≡_};
 ghost use Prim.Native.Nat.{_≤_, _<_};
-ghost use Rattle.message.specs.Message.{noUpdate, told};
+ghost use lib.ListN.{length};
+ghost use Rattle.message.specs.Message.{told};
 ghost use Rattle.frame.specs.Places.{left};
 ghost use Rattle.tags.specs.Slots.{marked, Chained};
 ghost use Rattle.entries.specs.Entries.{said};
 ghost use Rattle.fields.specs.Messages.{nextOn, nextAfter, otherOf, changesOf, snapshotOf, orBadFields, typedAs, messageIn};
 ghost use Rattle.fields.specs.Groups.{bareOf, topX, topW, topped, entryNext, Fair, grouped, counted, answered, Leads, Finds};
-use book::Update;
+ghost use Rattle.fields.specs.Reads.{runSize, Reads};
 use digits::Number;
 use entries::Said;
 use frame::Framed;
@@ -86,25 +87,10 @@ pub struct Next {
     pub offer: usize,
 }
 
-// An update that says nothing.
-fn no_update() -> Update
-    ensures { λ r. ⌜ r ≡ noUpdate ⌝ }
-{
-    Update {
-        who: 0,
-        what: 0,
-        action: 0,
-        place: 0,
-        entry: book::no_entry(),
-    }
-}
-
-// A reading without updates.
+// A reading without entries.
 fn bare(verdict: Verdict, number: u64, heard: u64) -> Reading
-    ensures { λ r. ⌜ r ≡ bareOf verdict number heard ⌝ }
+    ensures { λ r. ⌜ r ≡ bareOf verdict number heard .reading ⌝ }
 {
-    let none = no_update();
-    let us = [none; 64];
     Reading {
         verdict,
         number,
@@ -113,7 +99,6 @@ fn bare(verdict: Verdict, number: u64, heard: u64) -> Reading
         last: 0,
         loops: 0,
         count: 0,
-        updates: us,
     }
 }
 
@@ -215,19 +200,14 @@ fn entry(s: &[u8], depth: u64, t: Top, next: Next, m: Marks) -> Said
     }
 }
 
-// The entries of a group from `start` on, which 268 counts.
-fn listed(s: &[u8], start: usize, count: u64, depth: u64, t: Top) -> Reading
-    requires { ⌜ Chained (now s) start × (Fair t × (count ≤ 64)) ⌝ }
-    ensures { λ r. ⌜ r ≡ answered t (grouped depth t count (left (now (s .entry)) start)) ⌝ }
+// The entries of a group from `start` on, which 268 counts, into the run.
+fn listed(s: &[u8], start: usize, count: u64, depth: u64, t: Top, run: &mut [u64]) -> Reading
+    requires { ⌜ Chained (now s) start × (Fair t × (count ≤ 64)) × (runSize ≤ length (now run)) ⌝ }
+    ensures { λ r. ⌜ Reads (answered t (grouped depth t count (left (now (s .entry)) start))) r (now (run .entry)) (now (run .exit)) ⌝ }
 {
     let end = s.len();
     let first = t.first;
     let low = t.low;
-    let verdict = t.verdict;
-    let mut r = bare(verdict, t.number, t.heard);
-    r.id = t.id;
-    r.last = t.last;
-    r.loops = t.loops;
     let mut n: usize = 0;
     let mut next = Next { bid: 1, offer: 1 };
     let mut more = count;
@@ -282,17 +262,25 @@ fn listed(s: &[u8], start: usize, count: u64, depth: u64, t: Top) -> Reading
             Said::Bad => break 'entries,
             Said::Passed => continue 'entries,
             Said::Is(u) => {
-                r.updates[n] = u;
+                cells::save_update(run, n * cells::UPDATE, u);
                 n += 1;
                 next = next_after(next, u.what);
             }
         }
     }
-    r.count = n;
     if !good {
-        r = bare(Verdict::BadFields, 0, 0);
+        return bare(Verdict::BadFields, 0, 0);
     }
-    r
+    let verdict = t.verdict;
+    Reading {
+        verdict,
+        number: t.number,
+        heard: t.heard,
+        id: t.id,
+        last: t.last,
+        loops: t.loops,
+        count: n,
+    }
 }
 
 // A message without a group.
@@ -437,14 +425,15 @@ fn lead_of(s: &[u8]) -> Found
     }
 }
 
-// The message that bytes are, on a channel of a depth kind. The reading is made in one place, so that it is not copied.
-pub fn read(s: &[u8], depth: u64) -> Reading
-    ensures { λ r. ⌜ r ≡ told (messageIn depth (now (s .entry))) ⌝ }
+// The message that bytes are, on a channel of a depth kind. Its entries are written into the run.
+pub fn read(s: &[u8], depth: u64, run: &mut [u64]) -> Reading
+    requires { ⌜ runSize ≤ length (now run) ⌝ }
+    ensures { λ r. ⌜ Reads (told (messageIn depth (now (s .entry)))) r (now (run .entry)) (now (run .exit)) ⌝ }
 {
     let f = lead_of(s);
     let l = f.lead;
     let from = f.from;
     let end = f.end;
     let t = l.top;
-    listed(&s[from..end], l.at, l.count, depth, t)
+    listed(&s[from..end], l.at, l.count, depth, t, run)
 }

@@ -1,9 +1,8 @@
 -- A message as a board takes it, and the reader's answer that says it.
-use Prim.Native.Nat.{ℕ, zero, suc}
-use mathlib.Core.List.{List, [], _∷_}
+use Prim.Native.Nat.{ℕ}
+use mathlib.Core.List.{List, []}
 use lib.ListN.{length}
 use Rattle.book.specs.declared.Update.{Update}
-use Rattle.book.specs.Sides.{noEntry}
 use Rattle.message.specs.declared.Verdict.{Verdict}
 use Rattle.message.specs.declared.Verdict.the-variants.{Numbered, Snapshot, BadFrame, BadSum, BadType, BadFields}
 use Rattle.message.specs.declared.Reading.{Reading}
@@ -32,30 +31,38 @@ answerOf BadSum = 12
 answerOf BadType = 13
 answerOf BadFields = 14
 
--- An update that says nothing.
-abbrev pub noUpdate : Update
-noUpdate = record { who = 0; what = 0; action = 0; place = 0; entry = noEntry }
+-- What the reader answers for a message: its numbers, and the entries that it writes into a run.
+pub record Told : Type 0 where
+  pub reading : Reading
+  pub entries : List Update
 
--- The first k of l, and updates that say nothing for those that it lacks.
-unfoldable pub padded : ℕ → List Update → List Update
-padded zero l = []
-padded (suc k) [] = noUpdate ∷ padded k []
-padded (suc k) (u ∷ l) = u ∷ padded k l
-
--- The reader's answer.
-unfoldable pub told : Message → Reading
+unfoldable pub told : Message → Told
 told (numbered n at us) =
-    record { verdict = Numbered; number = n; heard = at; id = 0; last = 0; loops = 0; count = length us; updates = padded 64 us }
+    record { reading = record { verdict = Numbered; number = n; heard = at; id = 0; last = 0; loops = 0; count = length us }; entries = us }
 told (snapshot h us) =
     record {
-      verdict = Snapshot;
-      number = h .number;
-      heard = h .heard;
-      id = h .id;
-      last = h .last;
-      loops = h .loops;
-      count = length us;
-      updates = padded 64 us;
+      reading = record {
+        verdict = Snapshot;
+        number = h .number;
+        heard = h .heard;
+        id = h .id;
+        last = h .last;
+        loops = h .loops;
+        count = length us;
+      };
+      entries = us;
     }
-told (refused v) =
-    record { verdict = v; number = 0; heard = 0; id = 0; last = 0; loops = 0; count = 0; updates = padded 64 [] }
+told (refused v) = record { reading = record { verdict = v; number = 0; heard = 0; id = 0; last = 0; loops = 0; count = 0 }; entries = [] }
+
+-- The message that a reading and its entries say.
+abbrev pub saidBy : Verdict → Reading → List Update → Message
+saidBy Numbered r us = numbered (r .number) (r .heard) us
+saidBy Snapshot r us =
+    snapshot (record { number = r .number; heard = r .heard; id = r .id; last = r .last; loops = r .loops }) us
+saidBy BadFrame r us = refused BadFrame
+saidBy BadSum r us = refused BadSum
+saidBy BadType r us = refused BadType
+saidBy BadFields r us = refused BadFields
+
+abbrev pub said : Reading → List Update → Message
+said r us = saidBy (r .verdict) r us

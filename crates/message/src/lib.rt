@@ -1,6 +1,5 @@
-// What a message says once it is read: its type's part, its numbers and its entries, by value (document 01, "Frame" and
-// "Fields"). The reader answers one of these; a board takes it.
-use book::Update;
+// What a message says once it is read: its type's part and its numbers, by value (document 01, "Frame" and "Fields"). The reader
+// answers one of these, and writes the entries of the message as a run of numbers; a board takes both.
 
 // How the reading ended.
 pub enum Verdict {
@@ -19,7 +18,7 @@ pub enum Verdict {
 }
 
 // A message that was read. number is 34 and heard the moment of 52; id, last and loops are 48, 369 and 911 of a W, else 0.
-// The first count of the updates are its bid, offer and J entries in order; the others are zero.
+// count is how many bid, offer and J entries it has.
 pub struct Reading {
     pub verdict: Verdict,
     pub number: u64,
@@ -28,5 +27,4 @@ pub struct Reading {
     pub last: u64,
     pub loops: u64,
     pub count: usize,
-    pub updates: [Update; 64],
 }

@@ -6,8 +6,7 @@ use Prim.Native.Nat.{ℕ, _≤_, _<_, _^_}
 use native.Mathlib.Omega.{arith}
 use lib.Dec.{ltb, leb, eqb}
 use lib.IntN.{natAbs}
-use lib.ListN.{length, getD}
-use lib.Pow.{pow-mono}
+use lib.ListN.{length}
 use borrow.Author.Tests.{ltb-true, leb-true}
 use Rattle.moment.specs.Moments.{moments}
 use Rattle.orderid.specs.OrderIds.{isId, idBytes}
@@ -16,15 +15,13 @@ use Rattle.book.specs.declared.Entry.{Entry}
 use Rattle.pen.specs.Entries.{Writable}
 use Rattle.board.specs.Board.{at, noInst}
 use Rattle.board.specs.Ranges.{within, idFine, momentFine, orderFine, ordersFine, entryFine}
-use Rattle.board.specs.Sound.{Sound, SoundInst}
+use Rattle.board.specs.Sound.{SoundInst}
 use Rattle.board.proofs.Tested.{both, three, four, within-true}
 use Rattle.board.proofs.Each.{each-at}
-use Rattle.store.specs.Layout.{atMarks}
 use Rattle.store.specs.Meaning.{bookAt, instAt, boardOf, boardAt, loaded}
-use Rattle.store.specs.Canon.{Formed}
 use Rattle.store.proofs.Decode.{at-board, insts-length}
 use Rattle.sound.specs.Sound.{sound}
-use Rattle.sound.proofs.Laws.{sound-is-canon}
+use Rattle.sound.proofs.Readers.{formed, board}
 use Rattle.writer.specs.Writing.{letter, Ready}
 use Rattle.send.specs.Send.{argumentsFine}
 
@@ -82,24 +79,11 @@ fine id sender target k m h =
 
 -- ---- a sound store
 
--- marks of at most 16 instruments are a number of 16 bits
-sixteen : (m f : ℕ) → m < 2 ^ f → f ≤ 16 → m < 65536
-sixteen m f h l = let p : 2 ^ f ≤ 2 ^ 16 = pow-mono l in omega arith
-
 module _ (xs : List ℕ) (s : sound xs ≡ true) where
-  pub formed : Formed (loaded xs)
-  formed = sound-is-canon xs s .0 .formed
-
-  board : Sound (boardAt xs)
-  board = sound-is-canon xs s .1
-
-  pub marks : getD xs atMarks 0 < 65536
-  marks = sixteen _ _ (formed .marks) (formed .few)
-
   inst-sound : (i : ℕ) → i < loaded xs .head .followed → SoundInst (boardAt xs .depth) (instAt (loaded xs .head .marks) xs i)
   inst-sound i h =
       subst (SoundInst (boardAt xs .depth)) (at-board i (loaded xs) h)
-      (each-at (SoundInst (boardAt xs .depth)) (boardAt xs .insts) i noInst (board .each) (omega (arith, insts-length (loaded xs), h)))
+      (each-at (SoundInst (boardAt xs .depth)) (boardAt xs .insts) i noInst (board xs s .each) (omega (arith, insts-length (loaded xs), h)))
 
   pub ready : (i id : ℕ) (sender target : List ℕ) (k m time : ℕ) → i < loaded xs .head .followed → argumentsFine id sender target k m ≡ true → time < moments
       → Ready (letter sender target k m time) id (loaded xs .head .number) (bookAt xs i)
@@ -114,8 +98,8 @@ module _ (xs : List ℕ) (s : sound xs ≡ true) where
         m = f .loop;
         time = t;
         id = omega (arith, f .who);
-        last = board .last;
-        kept = formed .books i h;
+        last = board xs s .last;
+        kept = formed xs s .books i h;
         bids = all-writable (boardAt xs .depth) (heldIn (bookAt xs i .bids)) (x .bids .entries);
         offers = all-writable (boardAt xs .depth) (heldIn (bookAt xs i .offers)) (x .offers .entries);
       }

@@ -10,3 +10,4 @@ pub mod Rising
 pub mod Scanned
 pub mod Facts
 pub mod Laws
+pub mod Readers

@@ -2,6 +2,7 @@
 
 use super::draft::Draft;
 use super::exchange::Wish;
+use super::rng::Rng;
 use super::{bounds, harm, Generator};
 
 impl Generator {
@@ -21,6 +22,17 @@ impl Generator {
         }
     }
 
+    /// A message, and the same harmed once, or twice in so many of a hundred.
+    fn harmed_by(&mut self, harm: fn(&mut Rng, &mut Draft), twice: u64) -> (Draft, Draft) {
+        let whole = self.some_draft();
+        let mut harmed = whole.clone();
+        harm(&mut self.rng, &mut harmed);
+        if self.rng.chance(twice) {
+            harm(&mut self.rng, &mut harmed);
+        }
+        (whole, harmed)
+    }
+
     /// Feeds a harmed message, and mostly the whole one where the harmed one is refused.
     fn feed_harmed(&mut self, whole: &Draft, harmed: Vec<u8>) {
         let answer = self.feed(harmed);
@@ -31,23 +43,13 @@ impl Generator {
 
     /// One field, or two, at a bound of its range or just outside.
     pub(super) fn bound(&mut self) {
-        let whole = self.some_draft();
-        let mut harmed = whole.clone();
-        harm::to_bound(&mut self.rng, &mut harmed);
-        if self.rng.chance(10) {
-            harm::to_bound(&mut self.rng, &mut harmed);
-        }
+        let (whole, harmed) = self.harmed_by(harm::to_bound, 10);
         self.feed_harmed(&whole, harmed.seal());
     }
 
     /// Fields dropped, doubled, moved or changed, with 9 and 10 mended or not.
     pub(super) fn harm_fields(&mut self) {
-        let whole = self.some_draft();
-        let mut harmed = whole.clone();
-        harm::to_fields(&mut self.rng, &mut harmed);
-        if self.rng.chance(20) {
-            harm::to_fields(&mut self.rng, &mut harmed);
-        }
+        let (whole, mut harmed) = self.harmed_by(harm::to_fields, 20);
         if self.rng.chance(8) {
             harmed.fields[0].1 = bounds::bound(&mut self.rng, 35);
         }

@@ -4,7 +4,8 @@ use Rattle.heading.specs.declared.Heading.{Heading}
 use Rattle.store.specs.Meaning.{boardOf, boardAt}
 use Rattle.quote.specs.Quotes.{quoteOf, quoteNumber}
 use Rattle.ask.specs.Fine.{FineQuoted}
-use Rattle.ask.proofs.Facts.{formed, board, marks, ready}
+use Rattle.sound.proofs.Readers.{formed, board, marks}
+use Rattle.ask.proofs.Facts.{ready}
 use Rattle.ask.proofs.Quoting.{quoted-fine}
 use borrow.Author.Needs.{needs}
 use Rattle.ask.proofs.quote_into.Statement.{statement}

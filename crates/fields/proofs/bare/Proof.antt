@@ -1,16 +1,12 @@
--- `fields::bare` meets its contract: an array of updates that say nothing. Assumes nothing.
-use borrow.Author.Needs.{needs}
+-- `fields::bare` meets its contract: the numbers, and no entry. Assumes nothing.
+use mathlib.Core.Path.{refl}
 use Rattle.fields.specs.Groups.{bareOf}
-use Rattle.fields.proofs.Padding.{padded-none}
 use Rattle.fields.proofs.bare.Statement.{statement}
 use Rattle.fields.proofs.bare.Tie as tie
 
-no-update-requires : tie.Need-no-update-requires
-no-update-requires c κs = search needs
-
 returns : tie.Need-returns
 unfolding bareOf
-returns c = rw (padded-none 64, c .no-update .ensures)
+returns c = refl
 
 pub bare-spec : {M : Type 1} → statement M
-bare-spec = tie.close (tie.spec no-update-requires returns)
+bare-spec = tie.close (tie.spec returns)

@@ -1,6 +1,6 @@
 -- `fields::listed` meets its contract: the whole group is what was said and what is left, at each entry and at each field. Assumes nothing.
-use Prim.Native.Nat.{ℕ, _-_}
-use mathlib.Core.Path.{_≡_, sym, ap, _∙_}
+use Prim.Native.Nat.{_-_}
+use mathlib.Core.Path.{_≡_, refl, sym, ap, _∙_}
 use mathlib.Core.List.{[]}
 use native.Mathlib.Omega.{arith}
 use borrow.Author.Tests.{not-true, not-false}
@@ -11,34 +11,35 @@ use Rattle.frame.proofs.Walk.{found, never-no}
 use Rattle.tags.specs.Tags.{upTo}
 use Rattle.tags.specs.declared.Marks.{Marks}
 use Rattle.entries.proofs.Answers.{said-bad, said-passed, said-is}
-use Rattle.fields.specs.Groups.{grouped, answered}
-use Rattle.fields.proofs.Positions.{none-answered}
-use Rattle.fields.proofs.Listing.{kept-length, Heads, bare-items, heads-start, heads-set, heads-answer, Ended, at-trailer, at-refusal, cases, Lists, Enters, lists-start, all-there, some-missing, early, lists-skip, no-more, lists-enter, strayed, enters-more, stops-first, stops-end, ended-bad, ended-passed, ended-said}
+use Rattle.cells.specs.Runs.{updatesIn}
+use Rattle.fields.specs.Groups.{grouped}
+use Rattle.fields.proofs.Listing.{group-reads, none-reads, Ended, at-trailer, at-refusal, cases, Lists, Enters, lists-start, all-there, some-missing, early, lists-skip, no-more, lists-enter, strayed, enters-more, stops-first, stops-end, ended-bad, ended-passed, ended-said}
 use Rattle.fields.proofs.listed.Statement.{statement}
 use Rattle.fields.proofs.listed.Tie as tie
 
 abbrev Inv-loop : tie.InvT-loop
-Inv-loop s start count depth t end first low r n next more good at₀ tag from to k m₀ at m = Enters s start count depth t (r .updates) n next more good at₀ at m × Heads t r
+Inv-loop s start count depth t run end first low n next more good at₀ tag from to k m₀ at m = Enters s start count depth t run n next more good at₀ at m
 
 abbrev μ-loop : tie.MeasureT-loop
-μ-loop s start count depth t end first low r n next more good at₀ tag from to k m₀ at m = end - at
+μ-loop s start count depth t run end first low n next more good at₀ tag from to k m₀ at m = end - at
 
 abbrev Inv-entries : tie.InvT-entries
-Inv-entries s start count depth t end first low r₀ n₀ next₀ more₀ good₀ at₀ r n next more good at = Lists s start count depth t (r .updates) n next more good at × Heads t r
+Inv-entries s start count depth t run₀ end first low n₀ next₀ more₀ good₀ at₀ run n next more good at =
+    Lists s start count depth t run n next more good at × (length run ≡ length run₀)
 
 abbrev μ-entries : tie.MeasureT-entries
-μ-entries s start count depth t end first low r₀ n₀ next₀ more₀ good₀ at₀ r n next more good at = end - at
+μ-entries s start count depth t run₀ end first low n₀ next₀ more₀ good₀ at₀ run n next more good at = end - at
 
 -- an entry ends at the next one's first tag, or at the trailer
 stopped : (c : tie.Left-loop Inv-loop μ-loop Inv-entries μ-entries) → upTo (c .before .before .before .before .before .before .before .before .before .before .before .before .before .before .args .t .first) (left (c .before .before .before .before .before .before .before .before .before .before .before .before .before .before .args .s .now) (c .before .loop .at)) ≡ []
 stopped c =
     cases (c .loop-test .came)
-    (λ x. stops-end _ _ _ _ _ _ _ _ _ _ _ _ _ (c .before .loop .inv .0) (x .left))
-    (λ x. stops-first _ _ _ _ _ _ _ _ _ _ _ _ _ (c .before .loop .inv .0) _ _ _ (x .0 .taken) (sym (x .1 .ensures) ∙ x .3 .given .1) (x .5 .taken))
+    (λ x. stops-end _ _ _ _ _ _ _ _ _ _ _ _ _ (c .before .loop .inv) (x .left))
+    (λ x. stops-first _ _ _ _ _ _ _ _ _ _ _ _ _ (c .before .loop .inv) _ _ _ (x .0 .taken) (sym (x .1 .ensures) ∙ x .3 .given .1) (x .5 .taken))
 
 -- the walk ends at the trailer, or at a breach
 ended : (c : tie.Joined1 Inv-loop μ-loop Inv-entries μ-entries)
-    → Ended (c .if1 .good) (grouped (c .before .before .before .before .args .depth) (c .before .before .before .before .args .t) (c .before .before .before .before .args .count) (left (c .before .before .before .before .args .s .now) (c .before .before .before .before .args .start))) (c .before .entries .inv .0 .kept .said)
+    → Ended (c .if1 .good) (grouped (c .before .before .before .before .args .depth) (c .before .before .before .before .args .t) (c .before .before .before .before .args .count) (left (c .before .before .before .before .args .s .now) (c .before .before .before .before .args .start))) (updatesIn (c .before .entries .run) (c .before .entries .n))
 ended c =
     let w = c .before .entries .inv .0 in
     cases (c .if1 .came)
@@ -50,20 +51,17 @@ ended c =
     (λ y. cases y
     (λ x. at-refusal _ _ _ (x .9 ∙ w .bad) (no-more _ _ _ _ _ _ _ _ _ _ _ w _ _ _ (x .0 .left) (sym (x .1 .ensures) ∙ x .3 .given .1) (x .6 .left) (x .7 .taken)))
     (λ y. cases y
-    (λ x. at-refusal _ _ _ (x .15 ∙ w .bad) (absurd (never-no _ _ (x .9 .inv .0 .chained) (x .10 .taken) (sym (x .11 .ensures) ∙ x .13 .given .1))))
+    (λ x. at-refusal _ _ _ (x .15 ∙ w .bad) (absurd (never-no _ _ (x .9 .inv .chained) (x .10 .taken) (sym (x .11 .ensures) ∙ x .13 .given .1))))
     (λ y. cases y
-    (λ x. at-refusal _ _ _ (x .21 ∙ w .bad) (strayed _ _ _ _ _ _ _ _ _ _ _ _ _ (x .9 .inv .0) _ _ _ (x .10 .taken) (sym (x .11 .ensures) ∙ x .13 .given .1) (x .15 .left) _ (x .16 .ensures .0) (sym (x .18 .ensures) ∙ x .19 .taken)))
-    (λ x. at-refusal _ _ _ (x .15 ∙ w .bad) (ended-bad _ _ _ _ _ _ _ _ _ _ _ _ _ (x .9 .inv .0)
+    (λ x. at-refusal _ _ _ (x .21 ∙ w .bad) (strayed _ _ _ _ _ _ _ _ _ _ _ _ _ (x .9 .inv) _ _ _ (x .10 .taken) (sym (x .11 .ensures) ∙ x .13 .given .1) (x .15 .left) _ (x .16 .ensures .0) (sym (x .18 .ensures) ∙ x .19 .taken)))
+    (λ x. at-refusal _ _ _ (x .15 ∙ w .bad) (ended-bad _ _ _ _ _ _ _ _ _ _ _ _ _ (x .9 .inv)
     (cases (x .10 .came)
-    (λ z. stops-end _ _ _ _ _ _ _ _ _ _ _ _ _ (x .9 .inv .0) (z .left))
-    (λ z. stops-first _ _ _ _ _ _ _ _ _ _ _ _ _ (x .9 .inv .0) _ _ _ (z .0 .taken) (sym (z .1 .ensures) ∙ z .3 .given .1) (z .5 .taken)))
+    (λ z. stops-end _ _ _ _ _ _ _ _ _ _ _ _ _ (x .9 .inv) (z .left))
+    (λ z. stops-first _ _ _ _ _ _ _ _ _ _ _ _ _ (x .9 .inv) _ _ _ (z .0 .taken) (sym (z .1 .ensures) ∙ z .3 .given .1) (z .5 .taken)))
     (said-bad _ (sym (x .11 .ensures) ∙ x .13 .given .1)))))))))
 
-bare-requires : tie.Need-bare-requires Inv-loop μ-loop Inv-entries μ-entries
-bare-requires c κs = search needs
-
 entries-holds : tie.Need-entries-holds Inv-loop μ-loop Inv-entries μ-entries
-entries-holds c = let p = c .before .before .pre in (lists-start _ _ _ _ _ _ (bare-items _ _ _ _ (c .bare .ensures)) (p .0) (p .1 .0) (p .1 .1), heads-start _ _ (c .bare .ensures))
+entries-holds c = let p = c .before .before .pre in (lists-start _ _ _ _ _ _ (p .2) (p .0) (p .1 .0) (p .1 .1), refl)
 
 field-requires : tie.Need-field-requires Inv-loop μ-loop Inv-entries μ-entries
 field-requires c κs = search needs
@@ -110,7 +108,7 @@ element-write-m-2 c =
 
 loop-holds : tie.Need-loop-holds Inv-loop μ-loop Inv-entries μ-entries
 loop-holds c =
-    (lists-enter _ _ _ _ _ _ _ _ _ _ _ (c .before .before .before .before .before .before .before .before .before .entries .inv .0) _ _ _ (c .before .before .before .before .before .before .before .before .if1 .left) (sym (c .before .before .before .before .before .before .before .field .ensures) ∙ c .before .before .before .before .before .tag .given .1) (c .before .before .if2 .left) (c .before .if4 .left) _ (c .before .before .before .slot .ensures .0) (c .before .before .before .slot .ensures .1) _ (c .no-marks .ensures), c .before .before .before .before .before .before .before .before .before .entries .inv .1)
+    lists-enter _ _ _ _ _ _ _ _ _ _ _ (c .before .before .before .before .before .before .before .before .before .entries .inv .0) _ _ _ (c .before .before .before .before .before .before .before .before .if1 .left) (sym (c .before .before .before .before .before .before .before .field .ensures) ∙ c .before .before .before .before .before .tag .given .1) (c .before .before .if2 .left) (c .before .if4 .left) _ (c .before .before .before .slot .ensures .0) (c .before .before .before .slot .ensures .1) _ (c .no-marks .ensures)
 
 field-requires-2 : tie.Need-field-requires-2 Inv-loop μ-loop Inv-entries μ-entries
 field-requires-2 c κs = search needs
@@ -128,7 +126,7 @@ mul-seen : tie.Need-mul-seen Inv-loop μ-loop Inv-entries μ-entries
 mul-seen c = search needs
 
 element-copy-out-seen : tie.Need-element-copy-out-seen Inv-loop μ-loop Inv-entries μ-entries
-element-copy-out-seen c = omega (arith, c .before .before .before .before .before .before .before .loop .inv .0 .holds .tos, c .slot2 .ensures .1)
+element-copy-out-seen c = omega (arith, c .before .before .before .before .before .before .before .loop .inv .holds .tos, c .slot2 .ensures .1)
 
 stray-requires : tie.Need-stray-requires Inv-loop μ-loop Inv-entries μ-entries
 stray-requires c κs = search needs
@@ -137,13 +135,13 @@ mul-m-3 : tie.Need-mul-m-3 Inv-loop μ-loop Inv-entries μ-entries
 mul-m-3 c = search needs
 
 element-write-m-3 : tie.Need-element-write-m-3 Inv-loop μ-loop Inv-entries μ-entries
-element-write-m-3 c = omega (arith, c .before .before .before .before .before .before .before .before .before .before .loop .inv .0 .holds .froms, c .before .before .before .slot2 .ensures .1)
+element-write-m-3 c = omega (arith, c .before .before .before .before .before .before .before .before .before .before .loop .inv .holds .froms, c .before .before .before .slot2 .ensures .1)
 
 mul-m-4 : tie.Need-mul-m-4 Inv-loop μ-loop Inv-entries μ-entries
 mul-m-4 c = search needs
 
 element-write-m-4 : tie.Need-element-write-m-4 Inv-loop μ-loop Inv-entries μ-entries
-element-write-m-4 c = omega (arith, c .before .before .before .before .before .before .before .before .before .before .loop .inv .0 .holds .tos, c .before .before .before .slot2 .ensures .1)
+element-write-m-4 c = omega (arith, c .before .before .before .before .before .before .before .before .before .before .loop .inv .holds .tos, c .before .before .before .slot2 .ensures .1)
 
 add-at-2 : tie.Need-add-at-2 Inv-loop μ-loop Inv-entries μ-entries
 add-at-2 c =
@@ -155,7 +153,7 @@ loop-less c =
 
 loop-again : tie.Need-loop-again Inv-loop μ-loop Inv-entries μ-entries
 loop-again c =
-    (enters-more _ _ _ _ _ _ _ _ _ _ _ _ _ (c .before .before .before .before .before .before .before .before .before .before .loop .inv .0) _ _ _ (c .before .before .before .before .before .before .before .before .before .loop-test .taken) (sym (c .before .before .before .before .before .before .before .before .field2 .ensures) ∙ c .before .before .before .before .before .before .g .given .1) (c .before .before .before .before .if5 .left) _ (c .before .before .before .slot2 .ensures .0) (sym (c .before .stray .ensures) ∙ c .if6 .left) (c .before .before .before .slot2 .ensures .1), c .before .before .before .before .before .before .before .before .before .before .loop .inv .1)
+    enters-more _ _ _ _ _ _ _ _ _ _ _ _ _ (c .before .before .before .before .before .before .before .before .before .before .loop .inv) _ _ _ (c .before .before .before .before .before .before .before .before .before .loop-test .taken) (sym (c .before .before .before .before .before .before .before .before .field2 .ensures) ∙ c .before .before .before .before .before .before .g .given .1) (c .before .before .before .before .if5 .left) _ (c .before .before .before .slot2 .ensures .0) (sym (c .before .stray .ensures) ∙ c .if6 .left) (c .before .before .before .slot2 .ensures .1)
 
 entry-requires : tie.Need-entry-requires Inv-loop μ-loop Inv-entries μ-entries
 entry-requires c κs = search needs
@@ -168,45 +166,50 @@ enum-told-4 c = search needs
 
 entries-less-2 : tie.Need-entries-less-2 Inv-loop μ-loop Inv-entries μ-entries
 entries-less-2 c =
-    let f = found _ _ (sym (c .before .before .before .before .before .before .before .before .before .before .before .before .field .ensures) ∙ c .before .before .before .before .before .before .before .before .before .before .tag .given .1) in omega (arith, f .low, f .some, c .before .before .before .before .before .before .before .before .before .before .before .before .before .if1 .left, c .before .before .before .before .loop .inv .0 .onward)
+    let f = found _ _ (sym (c .before .before .before .before .before .before .before .before .before .before .before .before .field .ensures) ∙ c .before .before .before .before .before .before .before .before .before .before .tag .given .1) in omega (arith, f .low, f .some, c .before .before .before .before .before .before .before .before .before .before .before .before .before .if1 .left, c .before .before .before .before .loop .inv .onward)
 
 entries-again-2 : tie.Need-entries-again-2 Inv-loop μ-loop Inv-entries μ-entries
 entries-again-2 c =
-    (ended-passed _ _ _ _ _ _ _ _ _ _ _ _ _ (c .before .before .before .before .loop .inv .0) (stopped (c .before .before .before)) (said-passed _ (sym (c .before .before .entry .ensures) ∙ c .enum-told4 .given .1)), c .before .before .before .before .loop .inv .1)
+    (ended-passed _ _ _ _ _ _ _ _ _ _ _ _ _ (c .before .before .before .before .loop .inv) (stopped (c .before .before .before)) (said-passed _ (sym (c .before .before .entry .ensures) ∙ c .enum-told4 .given .1)), c .before .before .before .before .before .before .before .before .before .before .before .before .before .before .entries .inv .1)
 
 enum-known-said : tie.Need-enum-known-said Inv-loop μ-loop Inv-entries μ-entries
 enum-known-said c = search needs
 
-mul-u : tie.Need-mul-u Inv-loop μ-loop Inv-entries μ-entries
-mul-u c = omega (arith, c .before .before .before .before .before .loop .inv .0 .space)
+mul-save-update : tie.Need-mul-save-update Inv-loop μ-loop Inv-entries μ-entries
+mul-save-update c = omega (arith, c .before .before .before .before .before .before .loop .inv .space)
 
-element-set-from-u : tie.Need-element-set-from-u Inv-loop μ-loop Inv-entries μ-entries
-element-set-from-u c = omega (arith, c .before .before .before .before .before .loop .inv .0 .space, kept-length _ _ _ _ (c .before .before .before .before .before .loop .inv .0 .kept))
+save-update-requires : tie.Need-save-update-requires Inv-loop μ-loop Inv-entries μ-entries
+save-update-requires c κs = let w = c .before .before .before .before .before .before .loop .inv in omega (arith, w .space, w .kept .wide)
 
 add-n : tie.Need-add-n Inv-loop μ-loop Inv-entries μ-entries
-add-n c = omega (arith, c .before .before .before .before .before .loop .inv .0 .space)
+add-n c = omega (arith, c .before .before .before .before .before .before .before .before .before .loop .inv .space)
 
 next-after-requires : tie.Need-next-after-requires Inv-loop μ-loop Inv-entries μ-entries
-next-after-requires c κs = omega (arith, c .before .before .before .before .before .loop .inv .0 .space, c .before .before .before .before .before .loop .inv .0 .kept .bid, c .before .before .before .before .before .loop .inv .0 .kept .offer)
+next-after-requires c κs = let w = c .before .before .before .before .before .before .before .before .before .loop .inv in omega (arith, w .space, w .kept .bid, w .kept .offer)
 
 entries-less-3 : tie.Need-entries-less-3 Inv-loop μ-loop Inv-entries μ-entries
 entries-less-3 c =
-    let f = found _ _ (sym (c .before .before .before .before .before .before .before .before .before .before .before .before .before .before .field .ensures) ∙ c .before .before .before .before .before .before .before .before .before .before .before .before .tag .given .1) in omega (arith, f .low, f .some, c .before .before .before .before .before .before .before .before .before .before .before .before .before .before .before .if1 .left, c .before .before .before .before .before .before .loop .inv .0 .onward)
+    let f = found _ _ (sym (c .before .before .before .before .before .before .before .before .before .before .before .before .before .before .before .before .before .before .field .ensures) ∙ c .before .before .before .before .before .before .before .before .before .before .before .before .before .before .before .before .tag .given .1) in omega (arith, f .low, f .some, c .before .before .before .before .before .before .before .before .before .before .before .before .before .before .before .before .before .before .before .if1 .left, c .before .before .before .before .before .before .before .before .before .before .loop .inv .onward)
 
 entries-again-3 : tie.Need-entries-again-3 Inv-loop μ-loop Inv-entries μ-entries
 entries-again-3 c =
-    (ended-said _ _ _ _ _ _ _ _ _ _ _ _ _ (c .before .before .before .before .before .before .loop .inv .0) (stopped (c .before .before .before .before .before)) _ (said-is _ (sym (c .before .before .before .before .entry .ensures) ∙ c .before .before .said .given .1)) _ (c .next-after .ensures), heads-set _ (c .before .before .before .before .before .before .loop .inv .1))
+    let saved = c .before .before .before .save-update in
+    (ended-said _ _ _ _ _ _ _ _ _ _ _ _ _ (c .before .before .before .before .before .before .before .before .before .before .loop .inv) (stopped (c .before .before .before .before .before .before .before .before .before)) _ (said-is _ (sym (c .before .before .before .before .before .before .before .before .entry .ensures) ∙ c .before .before .before .before .before .before .said .given .1)) _ (c .next-after .ensures) _ (saved .ensures), saved .kept .0 ∙ c .before .before .before .before .before .before .before .before .before .before .before .before .before .before .before .before .before .before .before .before .entries .inv .1)
 
-bare-requires-2 : tie.Need-bare-requires-2 Inv-loop μ-loop Inv-entries μ-entries
-bare-requires-2 c κs = search needs
+bare-requires : tie.Need-bare-requires Inv-loop μ-loop Inv-entries μ-entries
+bare-requires c κs = search needs
+
+same-length : tie.Need-same-length Inv-loop μ-loop Inv-entries μ-entries
+same-length c = c .before .before .before .entries .inv .1
 
 returns : tie.Need-returns Inv-loop μ-loop Inv-entries μ-entries
-returns c =
-    c .bare2 .ensures ∙ none-answered _ ∙ ap (answered _) (sym (ended (c .before .before) .no (not-true _ (c .before .if7 .taken))))
+returns c = none-reads _ _ _ _ _ (ended (c .before .before) .no (not-true _ (c .before .if7 .taken))) (c .bare .ensures) (c .before .before .before .entries .inv .1)
+
+same-length-2 : tie.Need-same-length-2 Inv-loop μ-loop Inv-entries μ-entries
+same-length-2 c = c .before .before .entries .inv .1
 
 returns-2 : tie.Need-returns-2 Inv-loop μ-loop Inv-entries μ-entries
-returns-2 c =
-    heads-answer _ _ _ _ _ (c .before .before .entries .inv .0 .kept) (c .before .before .entries .inv .1) ∙ ap (answered _) (sym (ended (c .before) .yes (not-false _ (c .if7 .left))))
+returns-2 c = group-reads _ _ _ _ _ (ended (c .before) .yes (not-false _ (c .if7 .left))) (c .before .before .entries .inv .1)
 
 pub listed-spec : {M : Type 1} → statement M
 listed-spec =
@@ -216,7 +219,6 @@ listed-spec =
     μ-loop
     Inv-entries
     μ-entries
-    bare-requires
     entries-holds
     field-requires
     enum-known-tag
@@ -252,12 +254,14 @@ listed-spec =
     entries-less-2
     entries-again-2
     enum-known-said
-    mul-u
-    element-set-from-u
+    mul-save-update
+    save-update-requires
     add-n
     next-after-requires
     entries-less-3
     entries-again-3
-    bare-requires-2
+    bare-requires
+    same-length
     returns
+    same-length-2
     returns-2)

@@ -1,7 +1,7 @@
 -- `fields::read` meets its contract: what leads to the entries, then the entries. Assumes nothing.
-use mathlib.Core.Path.{_≡_, _∙_}
 use native.Mathlib.Omega.{arith}
 use borrow.Author.Needs.{needs}
+use Rattle.fields.proofs.Leading.{reads-as}
 use Rattle.fields.proofs.read.Statement.{statement}
 use Rattle.fields.proofs.read.Tie as tie
 
@@ -18,12 +18,15 @@ part-listed-end : tie.Need-part-listed-end
 part-listed-end c = c .before .before .lead-of .ensures .inside
 
 listed-requires : tie.Need-listed-requires
-listed-requires c κs = let l = c .before .before .before .lead-of .ensures .leads in (l .chained, (l .fair, l .few))
+listed-requires c κs = let l = c .before .before .before .before .lead-of .ensures .leads in (l .chained, (l .fair, l .few), c .before .before .before .before .before .before .before .pre)
+
+same-length : tie.Need-same-length
+same-length c = c .before .before .listed .ensures .size
 
 returns : tie.Need-returns
-returns c = c .listed .ensures ∙ c .before .before .before .before .lead-of .ensures .leads .says _
+returns c = reads-as (c .before .before .listed .ensures) (c .before .before .before .before .before .before .before .lead-of .ensures .leads .says _)
 
 pub read-spec : {M : Type 1} → statement M
 read-spec =
     tie.close
-    (tie.spec lead-of-requires sub-listed part-listed-start part-listed-end listed-requires returns)
+    (tie.spec lead-of-requires sub-listed part-listed-start part-listed-end listed-requires same-length returns)

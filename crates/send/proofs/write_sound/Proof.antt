@@ -9,7 +9,8 @@ use Rattle.store.specs.Meaning.{st, loaded, headingAt, boardAt, bookAt}
 use Rattle.store.specs.Canon.{Formed}
 use Rattle.writer.specs.Writing.{letter, pageOf}
 use Rattle.send.specs.Send.{Page, message, refusal, pageAt, pageAnswer, pageOut}
-use Rattle.send.proofs.Facts.{formed, marks, ready}
+use Rattle.sound.proofs.Readers.{formed, marks}
+use Rattle.send.proofs.Facts.{ready}
 use Rattle.send.proofs.Pages.{not-followed, is-waiting, is-live}
 use borrow.Author.Needs.{needs}
 use Rattle.send.proofs.write_sound.Statement.{statement}

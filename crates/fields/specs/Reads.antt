@@ -1,0 +1,18 @@
+-- What a reader leaves: its answer, and the entries in the run that its caller lends.
+use Prim.Native.Nat.{ℕ}
+use mathlib.Core.Path.{_≡_}
+use mathlib.Core.List.{List}
+use lib.ListN.{length}
+use Rattle.message.specs.Message.{Told}
+use Rattle.message.specs.declared.Reading.{Reading}
+use Rattle.cells.specs.Runs.{updatesIn}
+
+-- The numbers of a run that 64 entries fill.
+abbrev pub runSize : ℕ
+runSize = 576
+
+-- Of a run xs that was lent: the reading, its entries in the run ys that is left, which is as long as it was.
+pub record Reads (t : Told) (r : Reading) (xs ys : List ℕ) : Type 0 where
+  pub reading : r ≡ t .reading
+  pub entries : updatesIn ys (r .count) ≡ t .entries
+  pub size : length ys ≡ length xs
