@@ -7,4 +7,5 @@ pub mod Every
 pub mod Actions
 pub mod Keeping
 pub mod Untouched
+pub mod Breaches
 pub mod Marked

@@ -30,14 +30,3 @@ place-is p n h = go (leb 1 p) refl h
     go : (t : Bool) → leb 1 p ≡ t → t && leb p n ≡ true → (1 ≤ p) × (p ≤ n)
     go true e g = (leb-true 1 p e, leb-true p n g)
     go false e g = let z : _≡_ {A = ℕ} 0 1 = cc in absurd (omega arith)
-
--- t is the answer of `is_place`
-module _ {t : Bool} (s : Side) (p : ℕ) (answer : t ≡ isPlace p (s .held)) where
-  pub place-held : not t ≡ false → (1 ≤ p) × (p ≤ s .held)
-  place-held h = place-is p (s .held) (sym answer ∙ not-false t h)
-
-  pub goes-on : (d : Done) → not t ≡ false → d ≡ heldAt s p d
-  goes-on d h = rw (sym answer ∙ not-false t h)
-
-  pub turns-back : (d : Done) → not t ≡ true → refused badPlace s ≡ heldAt s p d
-  turns-back d h = rw (sym answer ∙ not-true t h)

@@ -3,7 +3,7 @@
 use mathlib.Core.Bool.{Bool, cond}
 use mathlib.Core.List.{List, [], _∷_, _++_}
 use Prim.Native.Nat.{ℕ, zero, suc, _+_, _-_}
-use lib.Dec.{ltb, eqb}
+use lib.Dec.{leb, ltb, eqb}
 use lib.IntN.{pos}
 use lib.ListN.{take, drop, replicate}
 use Rattle.book.specs.declared.Entry.{Entry}
@@ -32,13 +32,9 @@ pad zero l = []
 pad (suc k) [] = noEntry ∷ pad k []
 pad (suc k) (x ∷ l) = x ∷ pad k l
 
--- An operation that is done leaves these places, of which n are held.
-abbrev pub placed : ℕ → List Entry → Done
-placed n places = record { side = record { places = places; held = n }; reason = 0 }
-
--- The same with the 20 places that l makes.
+-- An operation that is done leaves the 20 places that l makes, of which n are held.
 abbrev pub done : ℕ → List Entry → Done
-done n l = placed n (pad mostPlaces l)
+done n l = record { side = record { places = pad mostPlaces l; held = n }; reason = 0 }
 
 -- A breach leaves the side as it was.
 abbrev pub refused : ℕ → Side → Done
@@ -82,6 +78,16 @@ sideStep s action p e =
     cond (eqb action 0) (newAt s p e)
     (cond (eqb action 1) (changeAt s p e)
     (cond (eqb action 2) (deleteAt s p) (cond (eqb action 3) (deleteThru s p) (cond (eqb action 4) (deleteFrom s p) (refused badPlace s)))))
+
+-- Why a side that holds n places refuses an action at place p: 1 place, 2 no room, 0 if it doesn't.
+unfoldable pub breachOf : ℕ → ℕ → ℕ → ℕ
+breachOf n action p =
+    cond (eqb action 0) (cond (isPlace p (n + 1)) (cond (ltb n mostPlaces) 0 noRoom) badPlace)
+    (cond (isPlace p n) (cond (leb action 4) 0 badPlace) badPlace)
+
+-- The index of the first place that a delete (2) or a delete thru removes, where the place that it names has the index `at`.
+abbrev pub firstGone : ℕ → ℕ → ℕ
+firstGone action at = cond (eqb action 2) at 0
 
 -- A book after an operation on its bids.
 abbrev pub bidsDone : Book → Done → Turn

@@ -1,11 +1,11 @@
 // A side of a book and a book of two sides, with what one entry of a message does to them (document 01, "A side of a
-// book"). Sides go in by value, are shifted, and come back; a breach hands the side back as it was, with its reason.
+// book"). A side is asked first whether it refuses; where it does not it goes in by value, is shifted, and comes back.
 ghost use mathlib.Core.Path.{_≡_};
 ghost use mathlib.Core.List.{_∷_, _++_};
-ghost use Prim.Native.Nat.{_+_};
+ghost use Prim.Native.Nat.{_+_, _≤_};
 ghost use lib.ListN.{take, drop};
-ghost use Rattle.book.specs.Rules.{mostPlaces, isPlace};
-ghost use Rattle.book.specs.Sides.{noEntry, noSide, noBook, pad, placed, refused, newAt, changeAt, deleteAt, deleteThru, deleteFrom, sideStep, bookStep};
+ghost use Rattle.book.specs.Rules.{mostPlaces};
+ghost use Rattle.book.specs.Sides.{noEntry, noSide, noBook, pad, breachOf, firstGone, sideStep, bookStep};
 
 // The most places of a side; the arrays below have this many.
 pub const PLACES: usize = 20;
@@ -117,31 +117,6 @@ pub fn no_book() -> Book
     Book { bids: s, offers: s }
 }
 
-// Whether p is one of the places 1 to n.
-fn is_place(p: usize, n: usize) -> bool
-    ensures { λ r. ⌜ r ≡ isPlace p n ⌝ }
-{
-    (1 <= p) & (p <= n)
-}
-
-// A breach: the side as it was, with the reason.
-fn refuse(s: Side, reason: u64) -> Done
-    ensures { λ r. ⌜ r ≡ refused reason s ⌝ }
-{
-    Done { side: s, reason }
-}
-
-// An operation that is done: the places that it leaves, and how many are held.
-fn leave(places: [Entry; 20], held: usize) -> Done
-    ensures { λ r. ⌜ r ≡ placed held places ⌝ }
-{
-    let s = Side { places, held };
-    Done {
-        side: s,
-        reason: DONE,
-    }
-}
-
 // Puts e at index `at`; the rest moves down, and the last falls off.
 fn push(a: [Entry; 20], at: usize, e: Entry) -> [Entry; 20]
     ensures { λ r. ⌜ r ≡ pad mostPlaces (take at a ++ e ∷ drop at a) ⌝ }
@@ -194,90 +169,84 @@ fn put(a: [Entry; 20], at: usize, e: Entry) -> [Entry; 20]
     b
 }
 
-// New at p: p at most one past the places held, and room for one more. The place is tested before the room.
-pub fn new_at(s: Side, p: usize, e: Entry) -> Done
-    ensures { λ r. ⌜ r ≡ newAt s p e ⌝ }
+// Why a side that holds n places refuses an action at place p, 0 if it does not. The place is tested before the room,
+// and an action above 4 is a breach of place.
+pub fn breach(n: usize, action: u64, p: usize) -> u64
+    ensures { λ r. ⌜ r ≡ breachOf n action p ⌝ }
 {
     if p == 0 {
-        return refuse(s, BAD_PLACE);
+        return BAD_PLACE;
     }
+    if action == NEW {
+        if n < p - 1 {
+            return BAD_PLACE;
+        }
+        if PLACES <= n {
+            return NO_ROOM;
+        }
+        return DONE;
+    }
+    if n < p {
+        return BAD_PLACE;
+    }
+    if DELETE_FROM < action {
+        return BAD_PLACE;
+    }
+    DONE
+}
+
+// The index of the first place that a delete or a delete thru removes; the one that it names is the last.
+fn first_gone(action: u64, at: usize) -> usize
+    ensures { λ r. ⌜ (r ≡ firstGone action at) × (r ≤ at) ⌝ }
+{
+    if action == DELETE {
+        return at;
+    }
+    0
+}
+
+// The side after an action that is no breach.
+pub fn worked(s: Side, action: u64, p: usize, e: Entry) -> Side
+    requires { ⌜ breachOf (s .held) action p ≡ 0 ⌝ }
+    ensures { λ r. ⌜ r ≡ sideStep s action p e .side ⌝ }
+{
+    let n = s.held;
+    let a = s.places;
     let at = p - 1;
-    let n = s.held;
-    if n < at {
-        return refuse(s, BAD_PLACE);
+    match action {
+        NEW => {
+            let places = push(a, at, e);
+            let held = n + 1;
+            Side { places, held }
+        }
+        CHANGE => {
+            let places = put(a, at, e);
+            Side { places, held: n }
+        }
+        DELETE_FROM => {
+            let places = keep(a, at);
+            Side { places, held: at }
+        }
+        _ => {
+            let from = first_gone(action, at);
+            let gone = p - from;
+            let places = pull(a, from, gone);
+            let held = n - gone;
+            Side { places, held }
+        }
     }
-    if PLACES <= n {
-        return refuse(s, NO_ROOM);
-    }
-    let a = s.places;
-    let b = push(a, at, e);
-    leave(b, n + 1)
 }
 
-// Replaces place p whole.
-pub fn change(s: Side, p: usize, e: Entry) -> Done
-    ensures { λ r. ⌜ r ≡ changeAt s p e ⌝ }
-{
-    let n = s.held;
-    if !is_place(p, n) {
-        return refuse(s, BAD_PLACE);
-    }
-    let a = s.places;
-    let b = put(a, p - 1, e);
-    leave(b, n)
-}
-
-// Removes place p.
-pub fn delete(s: Side, p: usize) -> Done
-    ensures { λ r. ⌜ r ≡ deleteAt s p ⌝ }
-{
-    let n = s.held;
-    if !is_place(p, n) {
-        return refuse(s, BAD_PLACE);
-    }
-    let a = s.places;
-    let b = pull(a, p - 1, 1);
-    leave(b, n - 1)
-}
-
-// Removes places 1 to p.
-pub fn delete_thru(s: Side, p: usize) -> Done
-    ensures { λ r. ⌜ r ≡ deleteThru s p ⌝ }
-{
-    let n = s.held;
-    if !is_place(p, n) {
-        return refuse(s, BAD_PLACE);
-    }
-    let a = s.places;
-    let b = pull(a, 0, p);
-    leave(b, n - p)
-}
-
-// Removes place p and all after it.
-pub fn delete_from(s: Side, p: usize) -> Done
-    ensures { λ r. ⌜ r ≡ deleteFrom s p ⌝ }
-{
-    let n = s.held;
-    if !is_place(p, n) {
-        return refuse(s, BAD_PLACE);
-    }
-    let a = s.places;
-    let b = keep(a, p - 1);
-    leave(b, p - 1)
-}
-
-// The operation that the action names; an action above 4 is a breach of place.
-pub fn on_side(s: Side, action: u64, p: usize, e: Entry) -> Done
+// The operation that the action names, or its breach.
+fn on_side(s: Side, action: u64, p: usize, e: Entry) -> Done
     ensures { λ r. ⌜ r ≡ sideStep s action p e ⌝ }
 {
-    match action {
-        NEW => new_at(s, p, e),
-        CHANGE => change(s, p, e),
-        DELETE => delete(s, p),
-        DELETE_THRU => delete_thru(s, p),
-        DELETE_FROM => delete_from(s, p),
-        _ => refuse(s, BAD_PLACE),
+    let reason = breach(s.held, action, p);
+    if reason != DONE {
+        return Done { side: s, reason };
     }
+    let t = worked(s, action, p, e);
+    Done { side: t, reason }
 }
 
 // One entry of a message on the book of its instrument: the side that it names is worked and the other stays; J

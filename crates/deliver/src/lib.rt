@@ -23,10 +23,13 @@ fn change(store: &mut [u64], at: usize, u: Update) -> u64
 {
     let s = cells::load_side(store, at);
     let e = u.entry;
-    let d = book::on_side(s, u.action, u.place, e);
-    let t = d.side;
+    let reason = book::breach(s.held, u.action, u.place);
+    if reason != 0 {
+        return reason;
+    }
+    let t = book::worked(s, u.action, u.place, e);
     cells::save_side(store, at, t);
-    d.reason
+    0
 }
 
 // The book of instrument i takes an entry: 0, or the reason of the breach.

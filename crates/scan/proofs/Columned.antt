@@ -1,20 +1,21 @@
 -- Laws of places tested by column, for the numbers that the code joins by `|`.
-use mathlib.Core.Path.{_≡_, refl}
+use mathlib.Core.Path.{_≡_, refl, sym, _∙_}
 use mathlib.Core.Bool.{Bool, true, false, _&&_}
 use mathlib.Core.List.{List}
 use Prim.Native.Nat.{ℕ, zero, suc, _+_, _*_, _-_, _/_, _%_, _^_, _≤_, _<_}
 use native.Mathlib.Omega.{arith}
-use lib.Dec.{ltb, leb}
+use lib.Dec.{ltb, leb, eqb}
 use lib.Bits.{bitOr, or-add-and, and-le-l, and-le-r}
 use lib.ListN.{getD}
-use borrow.Author.Tests.{ltb-true, ltb-false, leb-true, le-leb, lt-ltb, le-ltb}
+use borrow.Author.Tests.{ltb-true, ltb-false, leb-true, eqb-true, le-leb, lt-ltb, le-ltb}
 use Rattle.price.specs.Held.{heldTop}
 use Rattle.board.specs.Ranges.{within, momentFine}
 use Rattle.board.proofs.Tested.{both, is-within}
 use Rattle.store.specs.Layout.{bidsOf}
 use Rattle.scan.specs.declared.Columns.{Columns}
+use Rattle.scan.specs.declared.Swept.{Swept}
 use Rattle.scan.specs.Scan.{each, allZero, moreTo, entryScan, sideScan, roomOf, bookScan}
-use Rattle.scan.specs.Quick.{Spans, fits, Limits, Joins, Sides}
+use Rattle.scan.specs.Quick.{Spans, fits, Limits, Joins, fewOf, Sides, Settles}
 use Rattle.scan.proofs.Each.{each-at, each-of}
 
 -- what two numbers give is at least each of them
@@ -54,9 +55,17 @@ four-spans xs at low a b c d ea eb ec ed = go
     go (suc (suc (suc zero))) l h = let q : at + 3 * 5 ≡ at + 15 = omega arith in rw q (unwrapped d low (getD xs (at + 15) 0) r ed ld h)
     go (suc (suc (suc (suc k)))) l h = absurd (omega arith)
 
--- five columns that fit, as five facts and back
-pub fit-facts : (low most top : ℕ) (c : Columns) → fits low most top c ≡ true
-    → (c .price ≤ 19999999999999998) × (c .size < 999999999999) × (c .by ≤ most - low) × (c .more ≤ top) × (c .moment < 320829012000000)
+-- columns that fit, as facts and back
+pub record Fits (low most top : ℕ) (c : Columns) : Type 0 where
+  pub least : 1 ≤ low
+  pub limit : low ≤ most
+  pub price : c .price ≤ 19999999999999998
+  pub size : c .size < 999999999999
+  pub by : c .by ≤ most - low
+  pub more : c .more ≤ top
+  pub moment : c .moment < 320829012000000
+
+pub fit-facts : (low most top : ℕ) (c : Columns) → fits low most top c ≡ true → Fits low most top c
 unfolding fits
 fit-facts low most top c e =
     let p = leb (c .price) heldTop in
@@ -64,17 +73,33 @@ fit-facts low most top c e =
     let b = leb (c .by) (most - low) in
     let m = leb (c .more) top in
     let t = ltb (c .moment) 320829012000000 in
-    let e4 = both (p && s && b && m) t e in
+    let e6 = both (within 1 most low) (p && s && b && m && t) e in
+    let e5 = both (leb 1 low) (leb low most) (e6 .0) in
+    let e4 = both (p && s && b && m) t (e6 .1) in
     let e3 = both (p && s && b) m (e4 .0) in
     let e2 = both (p && s) b (e3 .0) in
     let e1 = both p s (e2 .0) in
-    (leb-true (c .price) heldTop (e1 .0), ltb-true (c .size) 999999999999 (e1 .1), leb-true (c .by) (most - low) (e2 .1), leb-true (c .more) top (e3 .1), ltb-true (c .moment) 320829012000000 (e4 .1))
+    record {
+      least = leb-true 1 low (e5 .0);
+      limit = leb-true low most (e5 .1);
+      price = leb-true (c .price) heldTop (e1 .0);
+      size = ltb-true (c .size) 999999999999 (e1 .1);
+      by = leb-true (c .by) (most - low) (e2 .1);
+      more = leb-true (c .more) top (e3 .1);
+      moment = ltb-true (c .moment) 320829012000000 (e4 .1);
+    }
 
-pub facts-fit : (low most top : ℕ) (c : Columns) → c .price ≤ 19999999999999998 → c .size < 999999999999 → c .by ≤ most - low → c .more ≤ top → c .moment < 320829012000000
-    → fits low most top c ≡ true
+pub facts-fit : (low most top : ℕ) (c : Columns) → Fits low most top c → fits low most top c ≡ true
 unfolding fits
-facts-fit low most top c p s b m t =
-    rw (le-leb (c .price) 19999999999999998 p, lt-ltb (c .size) 999999999999 s, le-leb (c .by) (most - low) b, le-leb (c .more) top m, lt-ltb (c .moment) 320829012000000 t)
+facts-fit low most top c f =
+    rw (
+      is-within 1 most low (f .least) (f .limit),
+      le-leb (c .price) 19999999999999998 (f .price),
+      lt-ltb (c .size) 999999999999 (f .size),
+      le-leb (c .by) (most - low) (f .by),
+      le-leb (c .more) top (f .more),
+      lt-ltb (c .moment) 320829012000000 (f .moment),
+    )
 
 -- an entry whose numbers lie within
 pub used : (most full : ℕ) (xs : List ℕ) (at : ℕ) → getD xs at 0 ≤ 19999999999999998 → 1 ≤ getD xs (at + 1) 0 → getD xs (at + 1) 0 ≤ 999999999999
@@ -101,16 +126,24 @@ joins-four xs at low c p s b m t P S B M T most full top L e =
     let m1 = or-r (c .more) m in
     let t0 = or-l (c .moment) t in
     let t1 = or-r (c .moment) t in
-    let fp = f .0 in
-    let fs = f .1 in
-    let fb = f .2 in
-    let fm = f .3 in
-    let ft = f .4 in
-    let l0 = L .0 in
-    let l1 = L .1 in
-    let l2 = L .2 in
-    let l3 = L .3 in (
-      facts-fit low most top c (omega (arith, p0, fp)) (omega (arith, s0, fs)) (omega (arith, b0, fb)) (omega (arith, m0, fm)) (omega (arith, t0, ft)),
+    let fp = f .price in
+    let fs = f .size in
+    let fb = f .by in
+    let fm = f .more in
+    let ft = f .moment in
+    let l0 = f .least in
+    let l1 = f .limit in
+    let l2 = L .0 in
+    let l3 = L .1 in (
+      facts-fit low most top c (record {
+        least = l0;
+        limit = l1;
+        price = omega (arith, p0, fp);
+        size = omega (arith, s0, fs);
+        by = omega (arith, b0, fb);
+        more = omega (arith, m0, fm);
+        moment = omega (arith, t0, ft);
+      }),
       λ k l.
           let q1 : at + 1 + k * 5 ≡ at + k * 5 + 1 = omega arith in
           let q2 : at + 2 + k * 5 ≡ at + k * 5 + 2 = omega arith in
@@ -121,7 +154,7 @@ joins-four xs at low c p s b m t P S B M T most full top L e =
           let hb = rw q2 at (B k l (omega (arith, b1, fb, l1, l2))) in
           let hm = rw q3 at (M k l (omega (arith, m1, fm, l3))) in
           let ht = rw q4 at (T k l (omega (arith, t1, ft))) in
-          let lim = L .4 (getD xs (at + k * 5 + 2) 0) (hb .0) in
+          let lim = L .2 (getD xs (at + k * 5 + 2) 0) (hb .0) in
           used most full xs (at + k * 5) (omega (arith, hp .1, p1, fp)) (hs .0) (omega (arith, hs .1, s1, fs)) (omega (arith, hb .0, l0)) (omega (arith, hb .1, b1, fb, l1))
           (omega (arith, hm .1, m1, fm, lim)) (omega (arith, ht .1, t1, ft)),
     )
@@ -129,21 +162,31 @@ joins-four xs at low c p s b m t P S B M T most full top L e =
 pub joins-none : (xs : List ℕ) (at low : ℕ) (c : Columns) → Joins xs at 0 low c c
 joins-none xs at low c most full top L e = (e, λ k l. absurd (omega (arith, l)))
 
--- a turn of the loop
-pub joins-more : (xs : List ℕ) (at n low : ℕ) (c r t : Columns) → Joins xs at n low c r → Joins xs (at + n * 5) 4 low r t → Joins xs at (n + 4) low c t
-joins-more xs at n low c r t A B most full top L e =
+-- four places more, from the n-th on, where those before it are joined
+pub joins-more : (xs : List ℕ) (at m n low : ℕ) (c r t : Columns) → n ≤ m → Joins xs at m low c r → Joins xs (at + n * 5) 4 low r t
+    → Joins xs at (n + 4) low c t
+joins-more xs at m n low c r t h A B most full top L e =
     let g = B most full top L e in
     let f = A most full top L (g .0) in
     (f .0, λ k l. go f g k l (ltb k n) refl)
   where
-    go : ((fits low most top c ≡ true) × ((k : ℕ) → k < n → entryScan most full xs (at + k * 5) ≡ true))
+    go : ((fits low most top c ≡ true) × ((k : ℕ) → k < m → entryScan most full xs (at + k * 5) ≡ true))
         → ((fits low most top r ≡ true) × ((k : ℕ) → k < 4 → entryScan most full xs (at + n * 5 + k * 5) ≡ true))
         → (k : ℕ) → k < n + 4 → (b : Bool) → ltb k n ≡ b → entryScan most full xs (at + k * 5) ≡ true
-    go f g k l true e = f .1 k (ltb-true k n e)
+    go f g k l true e = f .1 k (omega (arith, h, ltb-true k n e))
     go f g k l false e =
         let h = ltb-false k n e in
         let q : at + n * 5 + (k - n) * 5 ≡ at + k * 5 = omega (arith, h) in
         rw q at (g .1 (k - n) (omega (arith, h, l)))
+
+-- n places are all too few for a four, or none of them is
+pub few-all : (n : ℕ) → n < 4 → fewOf n ≡ n
+unfolding fewOf
+few-all n h = rw (lt-ltb n 4 h)
+
+pub few-none : (n : ℕ) → 4 ≤ n → fewOf n ≡ 0
+unfolding fewOf
+few-none n h = rw (le-ltb n 4 h)
 
 -- one side more
 pub side-more : (P : ℕ → Type 0) (j : ℕ) → ((i : ℕ) → i < j → P i) → P j → (i : ℕ) → i < j + 1 → P i
@@ -161,13 +204,13 @@ top-full most full b h = rw (le-ltb b full h) (omega arith)
 pub top-none : (most full b : ℕ) → 1 ≤ b → 0 ≤ moreTo most full b
 top-none most full b h = omega arith
 
--- a side whose places are used, those in fours and the few behind them, with nothing behind them all
+-- a side whose places are used, whether in fours or too few for one, with nothing behind them
 pub side-fine : (room most full : ℕ) (xs : List ℕ) (at : ℕ) → getD xs at 0 ≤ room
-    → ((k : ℕ) → k < getD xs at 0 / 4 * 4 → entryScan most full xs (at + 1 + k * 5) ≡ true)
-    → each (λ (k : ℕ). entryScan most full xs (at + 1 + getD xs at 0 / 4 * 20 + k * 5)) (getD xs at 0 % 4) ≡ true
+    → ((k : ℕ) → k < getD xs at 0 - fewOf (getD xs at 0) → entryScan most full xs (at + 1 + k * 5) ≡ true)
+    → each (λ (k : ℕ). entryScan most full xs (at + 1 + k * 5)) (fewOf (getD xs at 0)) ≡ true
     → allZero xs (at + 1 + getD xs at 0 * 5) (100 - getD xs at 0 * 5) && allZero xs (at + 101) 27 ≡ true → sideScan room most full xs at ≡ true
 unfolding sideScan
-side-fine room most full xs at h A E z = rw (le-leb n room h, each-of f n (λ k l. go k l (ltb k (n / 4 * 4)) refl), z)
+side-fine room most full xs at h A E z = rw (le-leb n room h, go (ltb n 4) refl, z)
   where
     n : ℕ
     n = getD xs at 0
@@ -175,12 +218,18 @@ side-fine room most full xs at h A E z = rw (le-leb n room h, each-of f n (λ k 
     f : ℕ → Bool
     f k = entryScan most full xs (at + 1 + k * 5)
 
-    go : (k : ℕ) → k < n → (b : Bool) → ltb k (n / 4 * 4) ≡ b → f k ≡ true
-    go k l true e = A k (ltb-true k (n / 4 * 4) e)
-    go k l false e =
-        let g = ltb-false k (n / 4 * 4) e in
-        let q : at + 1 + n / 4 * 20 + (k - n / 4 * 4) * 5 ≡ at + 1 + k * 5 = omega (arith, g) in
-        rw q at (each-at (λ (i : ℕ). entryScan most full xs (at + 1 + n / 4 * 20 + i * 5)) (n % 4) (k - n / 4 * 4) E (omega (arith, g, l)))
+    go : (b : Bool) → ltb n 4 ≡ b → each f n ≡ true
+    go true e = rw (few-all n (ltb-true n 4 e)) at E
+    go false e =
+        let q = few-none n (ltb-false n 4 e) in
+        each-of f n (λ k l. A k (omega (arith, q, l)))
+
+-- what was swept settles it where both tests pass; t is the answer of `fit`
+pub settled : (low most full marks : ℕ) (xs : List ℕ) (n top : ℕ) (s : Swept) (t : Bool) → Settles low most full marks xs n s → Limits low most full top
+    → t ≡ fits low most top (s .columns) → t && eqb (s .rest) 0 ≡ true → Sides most full marks xs n
+settled low most full marks xs n top s t S L f e =
+    let p = both t (eqb (s .rest) 0) e in
+    S top L (sym f ∙ p .0) (eqb-true (s .rest) 0 (p .1))
 
 -- both sides of each instrument
 pub books-fine : (most full marks : ℕ) (xs : List ℕ) (n : ℕ) → Sides most full marks xs (2 * n)

@@ -8,7 +8,7 @@ ghost use lib.Dec.{eqb};
 ghost use lib.ListN.{length, getD, drop};
 ghost use Rattle.board.specs.Sound.{distinct, among};
 ghost use Rattle.store.specs.Layout.{storeSize, atFollowed, atBase, atQueued};
-ghost use Rattle.scan.specs.Quick.{fits, Spans, Joins, Sides};
+ghost use Rattle.scan.specs.Quick.{fits, Spans, Joins, fewOf, Sides, Settles};
 ghost use Rattle.scan.specs.Scan.{each, allZero, headingScan, recordScan, spread, recordsScan, mostOf, fullOf, moreTo, entryScan, sideScan, roomOf, bookScan, booksScan, updateScan, slotScan, queueScan, restScan, scan};
 
 // Where things stand is crate store's table; here is what only a scan asks.
@@ -357,20 +357,29 @@ fn four(store: &[u64], at: usize, low: u64) -> u64
     (a | b) | (c | d)
 }
 
-// Many places by column: each column's numbers, less the least that they may be, joined by `|`.
+// Many places by column: each column's numbers, less the least that they may be, joined by `|`. In this order the compiler takes
+// neighbours two at a time.
 struct Columns {
-    price: u64,
     size: u64,
     by: u64,
     more: u64,
     moment: u64,
+    price: u64,
+}
+
+// The columns of many sides, and what else must be 0 in them.
+struct Swept {
+    columns: Columns,
+    rest: u64,
 }
 
 // Whether they stay within what every place must: `low` is the least that `by` may be, and `top` the most of `more` beside it.
 fn fit(c: Columns, low: u64, most: u64, top: u64) -> bool
-    requires { ⌜ low ≤ most ⌝ }
     ensures { λ r. ⌜ r ≡ fits low most top c ⌝ }
 {
+    if (low < 1) | (most < low) {
+        return false;
+    }
     (c.price <= MOST_PRICE)
         & (c.size < MOST_SIZE)
         & (c.by <= most - low)
@@ -389,11 +398,11 @@ fn turn(store: &[u64], at: usize, low: u64, c: Columns) -> Columns
     let more = four(store, at + 3, 0);
     let moment = four(store, at + 4, 0);
     Columns {
-        price: c.price | price,
         size: c.size | size,
         by: c.by | by,
         more: c.more | more,
         moment: c.moment | moment,
+        price: c.price | price,
     }
 }
 
@@ -413,6 +422,32 @@ fn fours(store: &[u64], at: usize, n: usize, low: u64, c: Columns) -> Columns
     acc
 }
 
+// How many of a side's n places are too few for a four.
+fn few(n: usize) -> usize
+    ensures { λ r. ⌜ (r ≡ fewOf n) × (r ≤ n) ⌝ }
+{
+    if n < 4 {
+        return n;
+    }
+    0
+}
+
+// n places of a side in fours, unless they are too few. The last four overlap those before them where n is no multiple of 4:
+// joined twice is joined.
+fn held(store: &[u64], at: usize, n: usize, low: u64, c: Columns) -> Columns
+    requires { ⌜ (at + n * 5 ≤ length (now store)) × (n ≤ 20) ⌝ }
+    ensures { λ r. ⌜ Joins (now (store .entry)) at (n - fewOf n) low c r ⌝ }
+{
+    if n < 4 {
+        return c;
+    }
+    let acc = fours(store, at, n / 4, low, c);
+    if n % 4 == 0 {
+        return acc;
+    }
+    turn(store, at + (n - 4) * ENTRY, low, acc)
+}
+
 // What is behind the n places of a side, joined by `|`.
 fn behind(store: &[u64], at: usize, n: usize) -> u64
     requires { ⌜ (at + 128 ≤ length (now store)) × (n ≤ 20) ⌝ }
@@ -423,25 +458,20 @@ fn behind(store: &[u64], at: usize, n: usize) -> u64
     unused | spare
 }
 
-// Whether all of so many sides are sound, their places taken by column, and each column of all sides tested once. False says
+// So many sides, their places taken by column, so that each column of all sides is tested once. Where that doesn't pass it says
 // nothing: numbers that lie within a limit may reach above it when they are joined.
-fn quick(store: &[u64], marks: u64, sides: usize, low: u64, most: u64, full: u64, top: u64) -> bool
-    requires { ⌜ (storeSize ≤ length (now store)) × (sides ≤ 32) × ((b : ℕ) → low ≤ b → top ≤ moreTo most full b) ⌝ }
-    ensures { λ r. ⌜ (r ≡ true → Sides most full marks (now (store .entry)) sides) ⌝ }
+fn sweep(store: &[u64], marks: u64, sides: usize, low: u64, most: u64, full: u64) -> Swept
+    requires { ⌜ (storeSize ≤ length (now store)) × (sides ≤ 32) ⌝ }
+    ensures { λ r. ⌜ Settles low most full marks (now (store .entry)) sides r ⌝ }
 {
-    if low < 1 {
-        return false;
-    }
-    if most < low {
-        return false;
-    }
-    let mut c = Columns {
-        price: 0,
+    let none = Columns {
         size: 0,
         by: 0,
         more: 0,
         moment: 0,
+        price: 0,
     };
+    let mut c = none;
     let mut rest = 0u64;
     let mut j = 0usize;
     while j < sides {
@@ -449,16 +479,22 @@ fn quick(store: &[u64], marks: u64, sides: usize, low: u64, most: u64, full: u64
         let n = store[at] as usize;
         let room = room_of(marks, j / 2);
         if room < n {
-            return false;
+            return Swept {
+                columns: none,
+                rest: 1,
+            };
         }
-        c = fours(store, at + 1, n / 4, low, c);
-        if !places(store, at + 1 + n / 4 * FOUR, n % 4, most, full) {
-            return false;
+        c = held(store, at + 1, n, low, c);
+        if !places(store, at + 1, few(n), most, full) {
+            return Swept {
+                columns: none,
+                rest: 1,
+            };
         }
         rest = rest | behind(store, at, n);
         j += 1;
     }
-    fit(c, low, most, top) & (rest == 0)
+    Swept { columns: c, rest }
 }
 
 // `more` of the first place that one of the sides holds, or 0.
@@ -475,15 +511,20 @@ fn sample(store: &[u64], sides: usize) -> u64
     0
 }
 
-// The same with the limits that the first place suggests: either no id has a second word, or the first word of each has 8 bytes.
+// Whether so many sides are sound, with the limits that the first place suggests: either no id has a second word, or the first
+// word of each has 8 bytes. False says nothing.
 fn tried(store: &[u64], marks: u64, sides: usize, most: u64, full: u64) -> bool
     requires { ⌜ (storeSize ≤ length (now store)) × (sides ≤ 32) ⌝ }
     ensures { λ r. ⌜ (r ≡ true → Sides most full marks (now (store .entry)) sides) ⌝ }
 {
     if sample(store, sides) == 0 {
-        return quick(store, marks, sides, 1, most, full, 0);
+        let s = sweep(store, marks, sides, 1, most, full);
+        let c = s.columns;
+        return fit(c, 1, most, 0) & (s.rest == 0);
     }
-    quick(store, marks, sides, full, most, full, most)
+    let s = sweep(store, marks, sides, full, most, full);
+    let c = s.columns;
+    fit(c, full, most, most) & (s.rest == 0)
 }
 
 // The books of the instruments that are followed: all at once, or else one by one.

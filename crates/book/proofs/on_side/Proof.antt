@@ -1,67 +1,29 @@
--- `on_side` meets its contract: each action leads to its operation.
-use borrow.Author.Tests.{ne-eqb}
+-- `on_side` meets its contract: a breach leaves the side, with its reason, and else it is worked.
+use mathlib.Core.Path.{_∙_, sym, ap}
+use Prim.Native.Nat.{ℕ}
+use native.Mathlib.Omega.{arith}
 use borrow.Author.Needs.{needs}
-use Rattle.book.specs.Sides.{sideStep}
+use Rattle.book.specs.Sides.{refused, sideStep}
+use Rattle.book.proofs.Breaches.{step-reason, done-by, step-refused}
 use Rattle.book.proofs.on_side.Statement.{statement}
 use Rattle.book.proofs.on_side.Tie as tie
 
-new-at-requires : tie.Need-new-at-requires
-new-at-requires c κs = search needs
-
-change-requires : tie.Need-change-requires
-change-requires c κs = search needs
-
-delete-requires : tie.Need-delete-requires
-delete-requires c κs = search needs
-
-delete-thru-requires : tie.Need-delete-thru-requires
-delete-thru-requires c κs = search needs
-
-delete-from-requires : tie.Need-delete-from-requires
-delete-from-requires c κs = search needs
-
-refuse-requires : tie.Need-refuse-requires
-refuse-requires c κs = search needs
+breach-requires : tie.Need-breach-requires
+breach-requires c κs = search needs
 
 returns : tie.Need-returns
-unfolding sideStep
-returns c = simp (c .before .match .keys1, c .new-at .ensures)
+returns c =
+    let x = c .before .before .args in
+    let r = c .before .breach .ensures in
+    ap (λ (r : ℕ). refused r (x .s)) r ∙ step-refused (x .s) (x .action) (x .p) (x .e) (λ z. c .if1 .taken (r ∙ z))
+
+worked-requires : tie.Need-worked-requires
+worked-requires c κs = search needs
 
 returns-2 : tie.Need-returns-2
-unfolding sideStep
-returns-2 c = simp (c .before .match .keys2, c .change .ensures)
-
-returns-3 : tie.Need-returns-3
-unfolding sideStep
-returns-3 c = simp (c .before .match .keys3, c .delete .ensures)
-
-returns-4 : tie.Need-returns-4
-unfolding sideStep
-returns-4 c = simp (c .before .match .keys4, c .delete-thru .ensures)
-
-returns-5 : tie.Need-returns-5
-unfolding sideStep
-returns-5 c = simp (c .before .match .keys5, c .delete-from .ensures)
-
-returns-6 : tie.Need-returns-6
-unfolding sideStep
-returns-6 c =
-    let r = c .before .match .rest in
-    simp (ne-eqb _ _ (r .1), ne-eqb _ _ (r .0 .1), ne-eqb _ _ (r .0 .0 .1), ne-eqb _ _ (r .0 .0 .0 .1), ne-eqb _ _ (r .0 .0 .0 .0 .1)) (c .refuse .ensures)
+returns-2 c =
+    let x = c .before .before .before .args in
+    done-by (c .worked .ensures) (c .before .before .breach .ensures ∙ sym (step-reason (x .s) (x .action) (x .p) (x .e)))
 
 pub on-side-spec : {M : Type 1} → statement M
-on-side-spec =
-    tie.close
-    (tie.spec
-    new-at-requires
-    change-requires
-    delete-requires
-    delete-thru-requires
-    delete-from-requires
-    refuse-requires
-    returns
-    returns-2
-    returns-3
-    returns-4
-    returns-5
-    returns-6)
+on-side-spec = tie.close (tie.spec breach-requires returns worked-requires returns-2)

@@ -35,7 +35,10 @@ loop-again c =
     let a = c .before .before .before .before .args in
     let q : l .o ≡ a .at + l .i * 4 * 5 = omega arith in
     let e : (l .i + 1) * 4 ≡ l .i * 4 + 4 = omega arith in
-    (omega arith, omega arith, rw e (joins-more (a .store .now) (a .at) (l .i * 4) (a .low) (a .c) (l .acc) (c .turn .result) (l .inv .2) (rw q at (c .turn .ensures))))
+    let m =
+    joins-more (a .store .now) (a .at) (l .i * 4) (l .i * 4) (a .low) (a .c) (l .acc) (c .turn .result) (omega arith) (l .inv .2) (rw q at (c .turn .ensures))
+    in
+    (omega arith, omega arith, rw e m)
 
 returns : tie.Need-returns Inv-loop μ-loop
 returns c =
