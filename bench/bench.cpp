@@ -11,6 +11,7 @@
 #include "peer.hpp"
 #include "same.hpp"
 #include "selkavorn.h"
+#include "store.hpp"
 #include "streams.hpp"
 
 namespace {
@@ -19,8 +20,6 @@ constexpr int WARM_UP = 5; // rounds
 constexpr int ENTRIES_A_ROUND = 1024;
 constexpr int QUEUE = 256;         // entries that fill the queue
 constexpr int CALLS_A_ROUND = 256; // of a call that takes no stream
-
-using Store = std::vector<uint64_t>;
 
 [[noreturn]] void fail(const std::string &what) {
     std::fprintf(stderr, "bench: %s\n", what.c_str());
@@ -43,7 +42,7 @@ struct Case {
 // What a case starts from: the stream, a store and a board whose books are full. Where one waits, the stream fills the queue.
 struct Start {
     Stream stream;
-    Store store = Store(SELKAVORN_STORE_NUMBERS);
+    Store store;
     PeerBoard board;
 };
 
@@ -179,7 +178,7 @@ void measure_others(Depth depth, const FIX::DataDictionary &dictionary, const Me
     for (const std::string &x : s.stream.changes) feed(s.store, x);
     const std::vector<std::string> &ws = s.stream.snapshots;
     const uint64_t *ids = s.stream.ids.data(), id = ids[0];
-    Store opened(SELKAVORN_STORE_NUMBERS), store;
+    Store opened, store;
     open(opened, depth, s.stream);
     auto nothing = [] {};
     auto reopen = [&] { return selkavorn_open(store.data(), store.size(), depth, ids, INSTRUMENTS) == SELKAVORN_DONE; };

@@ -29,6 +29,7 @@ NOTES = """\
 - Both sides end with the same books: after each case all 16 instruments are quoted and written as snapshots, and each number
   of the quotes and each byte of the snapshots is what the vectors hold. One that waited takes its snapshot first, so that the
   queue is compared too. The run fails where anything differs.
+- The store starts at an address that 64 divides, as a line of the cache does (`bench/store.hpp`).
 - A time is the processor's time of the thread, by round, divided by the calls of the round; the rounds of the columns take
   turns. The tables have the medians of {rounds} rounds. The middle half of the rounds spans {typical:.1%} of its median in the middle
   one of all columns, {worst:.1%} in the worst.

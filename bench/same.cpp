@@ -73,7 +73,7 @@ std::string expected_writing(const PeerBoard &board, const PeerBook &book, Depth
     return message('W', fields);
 }
 
-std::string written(const std::vector<uint64_t> &store, uint64_t id) {
+std::string written(const Store &store, uint64_t id) {
     std::string out(SELKAVORN_LONGEST_WRITING, '\0');
     uint64_t answered = selkavorn_write(store.data(), store.size(), id, bytes(SENDER), SENDER.size(), bytes(TARGET), TARGET.size(), 1,
                                         1, bytes(NOW), NOW.size(), reinterpret_cast<uint8_t *>(&out[0]), out.size());
@@ -83,7 +83,7 @@ std::string written(const std::vector<uint64_t> &store, uint64_t id) {
 
 } // namespace
 
-std::string difference(const std::vector<uint64_t> &store, const PeerBoard &board, Depth depth) {
+std::string difference(const Store &store, const PeerBoard &board, Depth depth) {
     for (const PeerBook &book : board.books) {
         std::vector<uint64_t> quote(SELKAVORN_QUOTE_NUMBERS);
         uint64_t answer = selkavorn_quote(store.data(), store.size(), book.id, bytes(NOW), NOW.size(), SELKAVORN_LONGEST_LIMIT_S,

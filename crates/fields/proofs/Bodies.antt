@@ -3,33 +3,28 @@ use mathlib.Core.Path.{_≡_, refl, sym, ap, _∙_}
 use mathlib.Core.List.{List, [], _∷_}
 use mathlib.Core.Bool.{Bool, true, false, cond, _&&_}
 use mathlib.Core.Option.{Option, none, some}
-use Prim.Native.Nat.{ℕ, _+_, _-_, _≤_, _<_}
+use Prim.Native.Nat.{ℕ, _+_, _≤_, _<_}
 use native.Mathlib.Omega.{arith}
-use borrow.Author.Tests.{eqb-true, eq-eqb, ne-eqb}
-use lib.Dec.{eqb}
+use borrow.Author.Tests.{eqb-true, eq-eqb, ne-eqb, leb-true}
+use lib.Dec.{eqb, leb}
 use lib.ListN.{length}
 use Rattle.digits.specs.Digits.{rangedOf, wholeOf, digitsOf}
 use Rattle.digits.specs.declared.Number.{Number}
 use Rattle.digits.proofs.Width.{both}
 use Rattle.book.specs.declared.Update.{Update}
 use Rattle.message.specs.Message.{Head, Message, numbered, snapshot, told}
-use Rattle.message.specs.declared.Verdict.the-variants.{Numbered, Snapshot, BadFrame, BadSum, BadType, BadFields}
-use Rattle.frame.specs.Fields.{Field, fieldsOf}
-use Rattle.frame.specs.Bytes.{fair, allFair}
-use Rattle.frame.specs.Frames.{frameOf}
-use Rattle.frame.specs.declared.Framed.{Framed}
-use Rattle.frame.proofs.Messages.{framing}
-use Rattle.frame.specs.Places.{part, fieldAt, isSome, given, left}
+use Rattle.message.specs.declared.Verdict.the-variants.{Numbered, Snapshot, BadFields}
+use Rattle.frame.specs.Fields.{Field}
+use Rattle.frame.specs.Places.{part, fieldAt, left}
 use Rattle.frame.specs.declared.Step.{Step}
-use Rattle.frame.proofs.Walk.{walk-on, walked}
-use Rattle.frame.proofs.Inverse.{fields-only, fair-is}
+use Rattle.frame.proofs.Walk.{left-on, left-no, walked, allTagged}
 use Rattle.tags.specs.Tags.{namedTags, otherTags, headX, headW, entryX, entryW, has, tidy, allTidy, upTo, past, onward, parts, lookup}
-use Rattle.tags.specs.Slots.{slotOf, below, between, marked, Holds, Chained}
+use Rattle.tags.specs.Slots.{slotOf, below, between, marked, Holds}
 use Rattle.tags.specs.declared.Marks.{Marks}
 use Rattle.entries.specs.Values.{_>>=_, need, Values, number, seqAt, heardAt, instrumentAt, lastAt, loopsAt}
 use Rattle.entries.specs.Entries.{entryInX, entryInW}
 use Rattle.entries.proofs.Same.{instrument-same}
-use Rattle.fields.specs.Messages.{otherOf, groupOf, each, changesOf, headOf, running, firsts, snapshotOf, orBadFields, typedAs, messageIn}
+use Rattle.fields.specs.Messages.{otherOf, groupOf, each, changesOf, headOf, running, firsts, snapshotOf, orBadFields, typedAs}
 use Rattle.fields.specs.Groups.{bareOf, topX, topW, entryIn, ordered, grouped, Fair, counted, answered}
 use Rattle.fields.specs.declared.Top.{Top}
 use Rattle.fields.proofs.Positions.{bare-refused}
@@ -113,14 +108,19 @@ module _ (s : List ℕ) (start depth : ℕ) (t : Top) where
   unfolding counted
   no-group l = rw (walked s start l)
 
-  module _ (tag from to : ℕ) (h : Chained s start) (l : start < length s) (step : fieldAt s start ≡ Step.Is tag from to) where
+  -- bytes that are no field: no bytes are no number
+  pub torn-count : start < length s → fieldAt s start ≡ Step.No → counted depth t (left s start) ≡ none
+  unfolding counted
+  torn-count l e = rw (left-no s start l e, no-count)
+
+  module _ (tag from to : ℕ) (l : start < length s) (step : fieldAt s start ≡ Step.Is tag from to) where
     pub bad-count : rangedOf 2 0 64 (part from to s) ≡ Number.No → counted depth t (left s start) ≡ none
     unfolding counted
-    bad-count e = rw (walk-on s start h l step .cons, e)
+    bad-count e = rw (left-on s start l step, e)
 
     pub good-count : (n : ℕ) → rangedOf 2 0 64 (part from to s) ≡ Number.Is n → counted depth t (left s start) ≡ grouped depth t n (left s (to + 1))
     unfolding counted
-    good-count n e = rw (walk-on s start h l step .cons, e)
+    good-count n e = rw (left-on s start l step, e)
 
 -- ---- refusals
 pub refused-by : (o : Option Message) → o ≡ none → bareOf BadFields 0 0 ≡ told (orBadFields o)
@@ -162,7 +162,7 @@ x-none {A} v k = go (seqAt v) (heardAt v)
 
 pub fair-x : (v : Values) (t : Top) → TopX v t → Fair t
 unfolding has between
-fair-x v t p = rw (p .same)
+fair-x v t p = rw (p .same) (refl, refl)
 
 -- marks and fields say the same of it
 pub top-x-same : (named : ℕ) (s : List ℕ) (m : Marks) (fs : List Field) → 6 ≤ named → Holds named s m fs → topX (marked s m) ≡ topX (lookup fs)
@@ -235,9 +235,6 @@ pub record TopW (v : Values) (t : Top) : Type 0 where
   }
 
 -- the two ways to read it
-abbrev w-head : ℕ → ℕ → ℕ → ℕ → ℕ → Head
-w-head n at id last loops = record { number = n; heard = at; id = id; last = last; loops = loops }
-
 heads : (v : Values) (a b c d e : Option ℕ) → seqAt v ≡ a → heardAt v ≡ b → instrumentAt v ≡ c → lastAt v ≡ d → loopsAt v ≡ e
     → topW v ≡ headOf v >>= λ h. some (w-top h)
 unfolding topW topX headOf
@@ -267,7 +264,7 @@ no-head v e = go (headOf v) (sym (top-head v) ∙ e)
 
 pub fair-w : (v : Values) (t : Top) → TopW v t → Fair t
 unfolding has between
-fair-w v t p = rw (p .same)
+fair-w v t p = rw (p .same) (refl, refl)
 
 pub top-w-same : (s : List ℕ) (m : Marks) (fs : List Field) → Holds 21 s m fs → topW (marked s m) ≡ topW (lookup fs)
 unfolding topW slotOf
@@ -319,20 +316,20 @@ module _ (depth : ℕ) (fs : List Field) where
   w-is h t p rest q = ap (λ (gs : List Field). answered t (counted depth t gs)) q ∙ sym (w-told h t p)
 
 -- ---- the other types
-no-zero : (fs : List Field) → allFair fs ≡ true → upTo 0 fs ≡ fs
+no-zero : (fs : List Field) → allTagged fs ≡ true → upTo 0 fs ≡ fs
 unfolding upTo
 no-zero [] h = refl
 no-zero (f ∷ fs) h =
-    let d = both (fair f) (allFair fs) h in
-    let l = fair-is f (d .0) .low in
+    let d = both (leb 1 (f .tag)) (allTagged fs) h in
+    let l = leb-true 1 (f .tag) (d .0) in
     rw (ne-eqb (f .tag) 0 (λ q. omega arith), no-zero fs (d .1))
 
-onward-fair : (fs : List Field) → allFair fs ≡ true → allFair (onward 268 fs) ≡ true
+onward-tagged : (fs : List Field) → allTagged fs ≡ true → allTagged (onward 268 fs) ≡ true
 unfolding onward
-onward-fair [] h = refl
-onward-fair (f ∷ fs) h = go (eqb (f .tag) 268) (onward-fair fs (both (fair f) (allFair fs) h .1))
+onward-tagged [] h = refl
+onward-tagged (f ∷ fs) h = go (eqb (f .tag) 268) (onward-tagged fs (both (leb 1 (f .tag)) (allTagged fs) h .1))
   where
-    go : (z : Bool) → allFair (onward 268 fs) ≡ true → allFair (cond z (f ∷ fs) (onward 268 fs)) ≡ true
+    go : (z : Bool) → allTagged (onward 268 fs) ≡ true → allTagged (cond z (f ∷ fs) (onward 268 fs)) ≡ true
     go true i = h
     go false i = i
 
@@ -347,9 +344,9 @@ tidy-past (f ∷ fs) = go (eqb (f .tag) 268) refl (tidy-past fs)
     go true q i = rw (eqb-true (f .tag) 268 q)
     go false q i = i
 
-rest-tidy : (fs : List Field) → allFair fs ≡ true → tidy (below 6) (between 0 0) (upTo 0 (onward 268 fs)) ≡ tidy otherTags [] (past 268 fs)
+rest-tidy : (fs : List Field) → allTagged fs ≡ true → tidy (below 6) (between 0 0) (upTo 0 (onward 268 fs)) ≡ tidy otherTags [] (past 268 fs)
 unfolding below between
-rest-tidy fs h = rw (no-zero (onward 268 fs) (onward-fair fs h)) (tidy-past fs)
+rest-tidy fs h = rw (no-zero (onward 268 fs) (onward-tagged fs h)) (tidy-past fs)
 
 module _ (fs : List Field) where
   abbrev y : Values
@@ -359,7 +356,7 @@ module _ (fs : List Field) where
   unfolding otherOf below between
   o-untidy h = rw h
 
-  pub o-untidy-rest : allFair fs ≡ true → tidy (below 6) (between 0 0) (upTo 0 (onward 268 fs)) ≡ false → otherOf fs ≡ none
+  pub o-untidy-rest : allTagged fs ≡ true → tidy (below 6) (between 0 0) (upTo 0 (onward 268 fs)) ≡ false → otherOf fs ≡ none
   unfolding otherOf
   o-untidy-rest f h = rw (sym (rest-tidy fs f) ∙ h) (go (tidy otherTags headX (upTo 268 fs)))
     where
@@ -373,20 +370,12 @@ module _ (fs : List Field) where
       not-read (tidy otherTags headX (upTo 268 fs) && tidy otherTags [] (past 268 fs)) (seqAt y >>= λ n. heardAt y >>= λ at. some (numbered n at []))
       (x-none y (λ n at. some (numbered n at [])) h)
 
-  pub o-is : allFair fs ≡ true → tidy (below 6) (between 4 6) (upTo 268 fs) ≡ true → tidy (below 6) (between 0 0) (upTo 0 (onward 268 fs)) ≡ true
+  pub o-is : allTagged fs ≡ true → tidy (below 6) (between 4 6) (upTo 268 fs) ≡ true → tidy (below 6) (between 0 0) (upTo 0 (onward 268 fs)) ≡ true
       → (t : Top) → TopX y t → bareOf Numbered (t .number) (t .heard) ≡ told (orBadFields (otherOf fs))
   unfolding otherOf orBadFields told bareOf below between
   o-is f h k t p =
       let q = p .same in
       rw (h, sym (rest-tidy fs f) ∙ k, p .seq, p .heard, q)
-
--- the fields of a chain are fair
-pub chain-fair : (s : List ℕ) → Chained s 0 → allFair (left s 0) ≡ true
-chain-fair s h = go (fieldsOf s) refl h
-  where
-    go : (o : Option (List Field)) → fieldsOf s ≡ o → isSome o ≡ true → allFair (given o) ≡ true
-    go none e h = refl
-    go (some fs) e h = fields-only s fs e .fair
 
 -- ---- by the type
 module _ (depth kind : ℕ) (fs : List Field) where
@@ -401,26 +390,3 @@ module _ (depth kind : ℕ) (fs : List Field) where
   pub type-other : (kind ≡ 88 → ⊥) → (kind ≡ 87 → ⊥) → told (orBadFields (typedAs depth kind fs)) ≡ told (orBadFields (otherOf fs))
   unfolding typedAs
   type-other n m = rw (ne-eqb kind 88 n, ne-eqb kind 87 m)
-
--- ---- the whole message
-module _ (depth : ℕ) (s : List ℕ) {kind from : ℕ} (e : frameOf s ≡ Framed.Is kind from) where
-  pub body-chained : Chained (part from (length s - 7) s) 0
-  body-chained = rw (framing s e .body)
-
-  pub body-is : told (orBadFields (typedAs depth kind (left (part from (length s - 7) s) 0))) ≡ told (messageIn depth s)
-  unfolding messageIn
-  body-is = rw (e, framing s e .body)
-
--- a frame that is refused
-module _ (depth : ℕ) (s : List ℕ) where
-  pub bad-frame : frameOf s ≡ Framed.BadFrame → bareOf BadFrame 0 0 ≡ told (messageIn depth s)
-  unfolding messageIn
-  bad-frame e = rw e (bare-refused BadFrame)
-
-  pub bad-sum : frameOf s ≡ Framed.BadSum → bareOf BadSum 0 0 ≡ told (messageIn depth s)
-  unfolding messageIn
-  bad-sum e = rw e (bare-refused BadSum)
-
-  pub bad-type : frameOf s ≡ Framed.BadType → bareOf BadType 0 0 ≡ told (messageIn depth s)
-  unfolding messageIn
-  bad-type e = rw e (bare-refused BadType)

@@ -4,15 +4,15 @@ use mathlib.Core.List.{List, []}
 use mathlib.Core.Option.{some}
 use Prim.Native.Nat.{ℕ}
 use native.Mathlib.Omega.{arith}
-use lib.ListN.{length, drop-of-length-le}
+use lib.ListN.{length}
 use Rattle.message.specs.Message.{Told}
 use Rattle.message.specs.declared.Reading.{Reading}
 use Rattle.message.specs.declared.Verdict.{Verdict}
-use Rattle.frame.specs.Fields.{cut, fieldsOf}
+use Rattle.cells.proofs.Runs.{no-updates}
 use Rattle.frame.specs.Places.{left}
 use Rattle.frame.proofs.Walk.{walked}
 use Rattle.tags.specs.Tags.{has}
-use Rattle.tags.specs.Slots.{between, Chained}
+use Rattle.tags.specs.Slots.{between}
 use Rattle.fields.specs.Messages.{firsts}
 use Rattle.fields.specs.Groups.{bareOf, Fair, grouped, answered, Leads}
 use Rattle.fields.specs.Reads.{Reads}
@@ -23,13 +23,9 @@ use Rattle.fields.proofs.Grouping.{group-start, at-end}
 abbrev topOf : Verdict → ℕ → ℕ → Top
 topOf v n heard = record { verdict = v; first = 279; low = 8; number = n; heard = heard; id = 0; last = 0; loops = 0 }
 
-end-chained : (s : List ℕ) → Chained s (length s)
-unfolding fieldsOf cut
-end-chained s = rw (drop-of-length-le s {i = length s} (omega arith))
-
 top-fair : (v : Verdict) (n heard : ℕ) → Fair (topOf v n heard)
 unfolding has between
-top-fair v n heard = refl
+top-fair v n heard = (refl, refl)
 
 none-grouped : (depth : ℕ) (t : Top) (s : List ℕ) → grouped depth t 0 (left s (length s)) ≡ some []
 none-grouped depth t s =
@@ -43,15 +39,19 @@ pub alone-leads : (s : List ℕ) (v : Verdict) (n heard : ℕ)
     → Leads s (record { top = topOf v n heard; at = length s; count = 0 }) (λ depth. bareOf v n heard)
 alone-leads s v n heard =
     record {
-      chained = end-chained s;
       fair = top-fair v n heard;
       few = omega arith;
       says = λ depth. ap (answered (topOf v n heard)) (none-grouped depth (topOf v n heard) s) ∙ none-told v n heard;
     }
 
+-- a refusal leaves no entry
+pub bare-reads : (v : Verdict) (xs ys : List ℕ) (r : Reading) → r ≡ bareOf v 0 0 .reading → length ys ≡ length xs → Reads (bareOf v 0 0) r xs ys
+unfolding bareOf
+bare-reads v xs ys r e l = rw e (record { reading = refl; entries = no-updates ys; size = l })
+
 -- in other words
 pub leads-as : {s : List ℕ} {l : Lead} {f : ℕ → Told} → Leads s l f → (g : ℕ → Told) → ((depth : ℕ) → f depth ≡ g depth) → Leads s l g
-leads-as h g q = record { chained = h .chained; fair = h .fair; few = h .few; says = λ depth. h .says depth ∙ q depth }
+leads-as h g q = record { fair = h .fair; few = h .few; says = λ depth. h .says depth ∙ q depth }
 
 pub reads-as : {t u : Told} {r : Reading} {xs ys : List ℕ} → Reads t r xs ys → t ≡ u → Reads u r xs ys
 reads-as h q =

@@ -3,3 +3,5 @@ pub mod Listing
 pub mod Leading
 pub mod Positions
 pub mod Bodies
+pub mod Unbroken
+pub mod Whole

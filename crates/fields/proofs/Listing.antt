@@ -6,12 +6,12 @@ use mathlib.Core.Logic.{_⊎_, inl, inr}
 use mathlib.Core.Option.{Option, none, some}
 use Prim.Native.Nat.{ℕ, _+_, _*_, _-_, _≤_, _<_}
 use native.Mathlib.Omega.{arith}
-use borrow.Author.Tests.{eqb-true, eqb-false, lt-ltb, le-ltb}
+use borrow.Author.Tests.{eqb-true, eqb-false, lt-ltb, le-ltb, not-true}
 use lib.Dec.{eqb}
 use lib.ListN.{length, getD, set, getD-replicate}
 use lib.Seq.{sets, length-sets}
+use Rattle.digits.proofs.Width.{both}
 use Rattle.book.specs.declared.Update.{Update}
-use Rattle.message.specs.Message.{told}
 use Rattle.message.specs.declared.Reading.{Reading}
 use Rattle.message.specs.declared.Verdict.the-variants.{BadFields}
 use Rattle.cells.specs.Cells.{updateWords, updateAt}
@@ -19,22 +19,24 @@ use Rattle.cells.specs.Runs.{updatesIn}
 use Rattle.cells.proofs.Tables.{length-tab}
 use Rattle.cells.proofs.Runs.{no-updates, one-more}
 use Rattle.frame.specs.Fields.{Field, field}
-use Rattle.frame.specs.Places.{part, fieldAt, left}
+use Rattle.frame.specs.Places.{part, fieldAt, broken, left}
 use Rattle.frame.specs.declared.Step.{Step}
-use Rattle.frame.proofs.Walk.{On, walk-on, walked, found}
+use Rattle.frame.proofs.Walk.{walked, left-on, left-no, found}
 use Rattle.tags.specs.Tags.{namedTags, has, stands, tidy, upTo, lookup}
-use Rattle.tags.specs.Slots.{slotOf, below, between, noMarks, marked, strays, Holds, Chained}
+use Rattle.tags.specs.Slots.{slotOf, below, between, noMarks, marked, strays, Holds}
 use Rattle.tags.specs.declared.Marks.{Marks}
 use Rattle.tags.proofs.Slots.{has-below}
 use Rattle.tags.proofs.Marking.{none-held, held-more}
 use Rattle.tags.proofs.Tidiness.{fits, fits-test, tidy-one, tidy-more}
-use Rattle.tags.proofs.Walking.{unseen}
+use Rattle.tags.proofs.Walking.{unseen, broken-strays}
 use Rattle.entries.proofs.Same.{x-same, w-same}
 use Rattle.fields.specs.Messages.{nextAfter, firsts}
 use Rattle.fields.specs.Groups.{bareOf, entryIn, entryNext, Fair, grouped, answered}
 use Rattle.fields.specs.Reads.{runSize, Reads}
 use Rattle.fields.specs.declared.Next.{Next}
 use Rattle.fields.specs.declared.Top.{Top}
+use Rattle.fields.proofs.Positions.{none-answered}
+use Rattle.fields.proofs.Leading.{bare-reads, reads-as}
 use Rattle.fields.proofs.Grouping.{outside, inside, group-start, at-end, too-few, passed-over, not-there, too-many, begins, goes-on, breaks, starts-none, starts-first, entry-bad, entry-passed, entry-said}
 
 -- all the named tags
@@ -47,6 +49,16 @@ named-is t k q l = ap (has t) (sym all-named) ∙ has-below t 21 (omega arith) �
 
 pub named-not : (t k : ℕ) → k ≡ slotOf t → 21 ≤ k → has t namedTags ≡ false
 named-not t k q l = ap (has t) (sym all-named) ∙ has-below t 21 (omega arith) ∙ le-ltb (slotOf t) 21 (omega arith)
+
+-- bytes that are no field are no entry's start, and stray wherever they stand
+broken-named : has 8 namedTags ≡ true
+unfolding has
+broken-named = refl
+
+broken-apart : (t : Top) → Fair t → (8 ≡ t .first → ⊥) × (strays 0 21 (t .low) 20 0 ≡ true)
+broken-apart t h =
+    let b = both (not (eqb 8 (t .first))) (strays 0 21 (t .low) 20 0) (h .1) in
+    (eqb-false 8 (t .first) (not-true (eqb 8 (t .first)) (b .0)), b .1)
 
 -- marks say of an entry what its fields say
 pub entry-same : (depth : ℕ) (t : Top) (next : Next) (s : List ℕ) (m : Marks) (e : List Field) → Holds 21 s m e
@@ -95,8 +107,7 @@ group-reads t o xs ys n q l =
 
 pub none-reads : (t : Top) (o : Option (List Update)) (xs ys : List ℕ) (r : Reading) → o ≡ none → r ≡ bareOf BadFields 0 0 .reading
     → length ys ≡ length xs → Reads (answered t o) r xs ys
-unfolding answered bareOf told
-none-reads t o xs ys r q e l = rw (q, e) (record { reading = refl; entries = no-updates ys; size = l })
+none-reads t o xs ys r q e l = rw q (reads-as (bare-reads BadFields xs ys r e l) (none-answered t))
 
 -- ---- where the walk has ended, and whether all is good
 pub record Ended (good : Bool) (o : Option (List Update)) (us : List Update) : Type 0 where
@@ -125,7 +136,6 @@ module _ (s : List ℕ) (start count depth : ℕ) (t : Top) where
   -- between two entries, or before the first
   pub record Lists (run : List ℕ) (n : ℕ) (next : Next) (more : ℕ) (good : Bool) (at : ℕ) : Type 0 where
     pub fair : Fair t
-    pub chained : Chained s at
     pub kept : Kept run n next more
     pub bad : good ≡ false
     pub same : whole ≡ outside depth t more next (updatesIn run n) (left s at)
@@ -133,7 +143,6 @@ module _ (s : List ℕ) (start count depth : ℕ) (t : Top) where
   -- in an entry that started before start'
   pub record Enters (run : List ℕ) (n : ℕ) (next : Next) (more : ℕ) (good : Bool) (from : ℕ) (at : ℕ) (m : Marks) : Type 0 where
     pub fair : Fair t
-    pub chained : Chained s at
     pub kept : Kept run n next more
     pub space : n + more < 64
     pub bad : good ≡ false
@@ -143,11 +152,10 @@ module _ (s : List ℕ) (start count depth : ℕ) (t : Top) where
     pub tidy : tidy namedTags ours passed ≡ true
     pub same : whole ≡ inside depth t more next (updatesIn run n) passed (left s at)
 
-  pub lists-start : (run : List ℕ) → runSize ≤ length run → Chained s start → Fair t → count ≤ 64 → Lists run 0 firsts count false start
-  lists-start run w h f l =
+  pub lists-start : (run : List ℕ) → runSize ≤ length run → Fair t → count ≤ 64 → Lists run 0 firsts count false start
+  lists-start run w f l =
       record {
         fair = f;
-        chained = h;
         kept = kept-none run count w l;
         bad = refl;
         same = group-start depth t count (left s start) ∙ ap (λ (us : List Update). outside depth t count firsts us (left s start)) (sym (no-updates run));
@@ -164,15 +172,18 @@ module _ (s : List ℕ) (start count depth : ℕ) (t : Top) where
     pub some-missing : length s ≤ at → (more ≡ 0 → ⊥) → whole ≡ none
     some-missing l z = w .same ∙ ap (outside depth t more next said) (walked s at l) ∙ too-few depth t more next said z
 
+    -- bytes that are no field
+    pub torn : at < length s → fieldAt s at ≡ Step.No → whole ≡ none
+    torn l e =
+        w .same ∙ ap (outside depth t more next said) (left-no s at l e)
+        ∙ not-there depth t more next said broken [] (broken-apart t (w .fair) .0) broken-named
+
     module _ (tag from to : ℕ) (l : at < length s) (step : fieldAt s at ≡ Step.Is tag from to) where
       abbrev f : Field
       f = field tag (part from to s)
 
-      on : On s at tag from to
-      on = walk-on s at (w .chained) l step
-
       first : whole ≡ outside depth t more next said (f ∷ left s (to + 1))
-      first = w .same ∙ ap (outside depth t more next said) (on .cons)
+      first = w .same ∙ ap (outside depth t more next said) (left-on s at l step)
 
       pub early : (tag ≡ t .first → ⊥) → (k : ℕ) → k ≡ slotOf tag → k < 21 → whole ≡ none
       early q k e g = first ∙ not-there depth t more next said f (left s (to + 1)) q (named-is tag k e g)
@@ -181,7 +192,6 @@ module _ (s : List ℕ) (start count depth : ℕ) (t : Top) where
       lists-skip q k e g =
           record {
             fair = w .fair;
-            chained = on .good;
             kept = w .kept;
             bad = w .bad;
             same = first ∙ passed-over depth t more next said f (left s (to + 1)) q (named-not tag k e g);
@@ -193,7 +203,7 @@ module _ (s : List ℕ) (start count depth : ℕ) (t : Top) where
       first-fits : tag ≡ t .first → fits namedTags ours [] f ≡ true
       unfolding stands
       first-fits q =
-          let h : has tag ours ≡ true = rw q (w .fair) in
+          let h : has tag ours ≡ true = rw q (w .fair .0) in
           rw h (go (has tag namedTags))
         where
           go : (z : Bool) → not z || true ≡ true
@@ -206,7 +216,6 @@ module _ (s : List ℕ) (start count depth : ℕ) (t : Top) where
           let p = found s at step in
           record {
             fair = w .fair;
-            chained = on .good;
             kept = kept-less run n next more (w .kept);
             space = omega (arith, w .kept .room);
             bad = w .bad;
@@ -221,43 +230,54 @@ module _ (s : List ℕ) (start count depth : ℕ) (t : Top) where
     abbrev so-far : List Update
     so-far = updatesIn run n
 
+    -- a field that is next
+    module _ (f : Field) (fs : List Field) (on : left s at ≡ f ∷ fs) where
+      next-field : whole ≡ inside depth t more next so-far (w .passed) (f ∷ fs)
+      next-field = w .same ∙ ap (inside depth t more next so-far (w .passed)) on
+
+      test : (k : ℕ) → k ≡ slotOf (f .tag) → fits namedTags ours (w .passed) f ≡ not (strays k 21 (t .low) 20 (getD (m .to) k 0))
+      test k e =
+          ap (λ (named : List ℕ). fits named ours (w .passed) f) (sym all-named)
+          ∙ rw e (fits-test s m (w .passed) 21 (t .low) 20 (w .holds) (omega arith) (omega arith) f)
+
+      breach : (f .tag ≡ t .first → ⊥) → (k : ℕ) → k ≡ slotOf (f .tag) → strays k 21 (t .low) 20 (getD (m .to) k 0) ≡ true → whole ≡ none
+      breach q k e h = next-field ∙ breaks depth t more next so-far (w .passed) f fs q (test k e ∙ ap not h)
+
+    -- bytes that are no field
+    pub torn-in : at < length s → fieldAt s at ≡ Step.No → whole ≡ none
+    torn-in l e =
+        let b = broken-apart t (w .fair) in
+        breach broken [] (left-no s at l e) (b .0) (slotOf 8) refl (broken-strays 21 (t .low) 20 (getD (m .to) (slotOf 8) 0) (b .1))
+
     module _ (tag from to : ℕ) (l : at < length s) (step : fieldAt s at ≡ Step.Is tag from to) where
-      here : On s at tag from to
-      here = walk-on s at (w .chained) l step
+      abbrev g : Field
+      g = field tag (part from to s)
+
+      here : left s at ≡ g ∷ left s (to + 1)
+      here = left-on s at l step
 
       module _ (q : tag ≡ t .first → ⊥) (k : ℕ) (e : k ≡ slotOf tag) where
-        test : fits namedTags ours (w .passed) (field tag (part from to s)) ≡ not (strays k 21 (t .low) 20 (getD (m .to) k 0))
-        test =
-            ap (λ (named : List ℕ). fits named ours (w .passed) (field tag (part from to s))) (sym all-named)
-            ∙ rw e (fits-test s m (w .passed) 21 (t .low) 20 (w .holds) (omega arith) (omega arith) (field tag (part from to s)))
-
-        next-field : whole ≡ inside depth t more next so-far (w .passed) (field tag (part from to s) ∷ left s (to + 1))
-        next-field = w .same ∙ ap (inside depth t more next so-far (w .passed)) (here .cons)
-
         pub strayed : strays k 21 (t .low) 20 (getD (m .to) k 0) ≡ true → whole ≡ none
-        strayed h =
-            next-field ∙ breaks depth t more next so-far (w .passed) (field tag (part from to s)) (left s (to + 1)) q (test ∙ ap not h)
+        strayed h = breach g (left s (to + 1)) here q k e h
 
         pub enters-more : strays k 21 (t .low) 20 (getD (m .to) k 0) ≡ false → k ≤ 21
             → Enters run n next more good from' (to + 1) (record { from = set (m .from) k from; to = set (m .to) k to })
         enters-more h b =
             let p = found s at step in
-            let f = field tag (part from to s) in
             record {
               fair = w .fair;
-              chained = here .good;
               kept = w .kept;
               space = w .space;
               bad = w .bad;
               onward = omega (arith, w .onward, p .low, p .some);
-              passed = w .passed ++ (f ∷ []);
+              passed = w .passed ++ (g ∷ []);
               holds = held-more 21 s m (w .passed) (omega arith) (w .holds) tag k from to e b (unseen k 21 (t .low) 20 (getD (m .to) k 0) h) (p .some) (p .high);
-              tidy = tidy-more namedTags ours (w .passed) f (w .tidy) (test ∙ ap not h);
-              same = next-field ∙ goes-on depth t more next so-far (w .passed) f (left s (to + 1)) q;
+              tidy = tidy-more namedTags ours (w .passed) g (w .tidy) (test g (left s (to + 1)) here k e ∙ ap not h);
+              same = next-field g (left s (to + 1)) here ∙ goes-on depth t more next so-far (w .passed) g (left s (to + 1)) q;
             }
 
       pub stops-first : tag ≡ t .first → upTo (t .first) (left s at) ≡ []
-      stops-first q = ap (upTo (t .first)) (here .cons) ∙ starts-first depth t (field tag (part from to s)) (left s (to + 1)) q
+      stops-first q = ap (upTo (t .first)) here ∙ starts-first depth t g (left s (to + 1)) q
 
     pub stops-end : length s ≤ at → upTo (t .first) (left s at) ≡ []
     stops-end l = ap (upTo (t .first)) (walked s at l) ∙ starts-none depth t
@@ -274,7 +294,6 @@ module _ (s : List ℕ) (start count depth : ℕ) (t : Top) where
       ended-passed h =
           record {
             fair = w .fair;
-            chained = w .chained;
             kept = w .kept;
             bad = w .bad;
             same = w .same ∙ entry-passed depth t more next so-far (w .passed) (left s at) (w .tidy) stop (sym read ∙ h);
@@ -286,7 +305,6 @@ module _ (s : List ℕ) (start count depth : ℕ) (t : Top) where
           let more-said = one-more run n u (omega (arith, w .space, w .kept .wide)) in
           rw (q, e) (record {
             fair = w .fair;
-            chained = w .chained;
             kept = kept-more run n next more (w .kept) u (w .space);
             bad = w .bad;
             same =

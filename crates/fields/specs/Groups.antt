@@ -9,16 +9,16 @@ use lib.ListN.{length}
 use Rattle.book.specs.declared.Update.{Update}
 use Rattle.message.specs.Message.{Told, refused, told}
 use Rattle.message.specs.declared.Verdict.{Verdict}
-use Rattle.message.specs.declared.Verdict.the-variants.{Numbered, Snapshot, BadFields}
+use Rattle.message.specs.declared.Verdict.the-variants.{Numbered, Snapshot, BadFrame, BadSum, BadType, BadFields}
 use Rattle.digits.specs.Digits.{rangedOf}
 use Rattle.frame.specs.Fields.{Field}
+use Rattle.frame.specs.Places.{left}
+use Rattle.frame.specs.declared.Framed.{Framed}
 use Rattle.tags.specs.Tags.{namedTags, has, tidy, allTidy, upTo, parts}
-use Rattle.frame.specs.Places.{part, left}
-use Rattle.tags.specs.Slots.{between, Chained}
+use Rattle.tags.specs.Slots.{between, breaks}
 use Rattle.entries.specs.Values.{_>>=_, need, Values, number, seqAt, heardAt, instrumentAt, lastAt, loopsAt}
 use Rattle.entries.specs.Entries.{entryInX, entryInW}
-use Rattle.fields.specs.Messages.{each, running, nextOn, firsts, messageIn}
-use Rattle.fields.specs.declared.Found.{Found}
+use Rattle.fields.specs.Messages.{each, running, nextOn, firsts}
 use Rattle.fields.specs.declared.Lead.{Lead}
 use Rattle.fields.specs.declared.Next.{Next}
 use Rattle.fields.specs.declared.Top.{Top}
@@ -28,6 +28,13 @@ use Rattle.fields.specs.declared.Topped.{Topped}
 unfoldable pub bareOf : Verdict → ℕ → ℕ → Told
 bareOf verdict n heard =
     record { reading = record { verdict = verdict; number = n; heard = heard; id = 0; last = 0; loops = 0; count = 0 }; entries = [] }
+
+-- Why a message is not read: its frame, or else a breach under "Fields".
+abbrev pub refusalOf : Framed → Verdict
+refusalOf (Framed.Is kind from) = BadFields
+refusalOf Framed.BadFrame = BadFrame
+refusalOf Framed.BadSum = BadSum
+refusalOf Framed.BadType = BadType
 
 -- What stands before the group of an X, and of a W.
 unfoldable pub topX : Values → Option Top
@@ -70,9 +77,9 @@ grouped depth t n fs =
     && (tidy namedTags [] (upTo (t .first) fs) && allTidy namedTags (between (t .low) 20) (parts (t .first) fs)))
     (each (entryIn depth t) (parts (t .first) fs) >>= λ us. need (ordered t firsts us) (some us))
 
--- The first tag of an entry may stand in it.
+-- The first tag of an entry may stand in it, and bytes that are no field may not.
 abbrev pub Fair : Top → Type 0
-Fair t = has (t .first) (between (t .low) 20) ≡ true
+Fair t = (has (t .first) (between (t .low) 20) ≡ true) × (breaks (t .first) 21 (t .low) 20 ≡ true)
 
 -- The group from 268 on.
 unfoldable pub counted : ℕ → Top → List Field → Option (List Update)
@@ -96,16 +103,8 @@ answered t (some us) =
       entries = us;
     }
 
--- What leads to the entries of fields: they start at a place of the chain, 268 says at most 64, and what they give, on a
--- channel of each depth kind, is f.
+-- What leads to the entries of fields: 268 says at most 64, and what they give, on a channel of each depth kind, is f.
 pub record Leads (s : List ℕ) (l : Lead) (f : ℕ → Told) : Type 0 where
-  pub chained : Chained s (l .at)
   pub fair : Fair (l .top)
   pub few : l .count ≤ 64
   pub says : (depth : ℕ) → answered (l .top) (grouped depth (l .top) (l .count) (left s (l .at))) ≡ f depth
-
--- The fields of a message, and what leads to its entries.
-pub record Finds (s : List ℕ) (r : Found) : Type 0 where
-  pub start : r .from ≤ r .end
-  pub inside : r .end ≤ length s
-  pub leads : Leads (part (r .from) (r .end) s) (r .lead) (λ depth. told (messageIn depth s))

@@ -1,15 +1,17 @@
 // The reader (document 01, "Frame" and "Fields"): from the bytes of a message to what a board takes. The frame is
-// checked first. Then the fields between 35 and 10 are walked once more: what stands before 268 is one place, and each
-// entry of the group is another. What a place holds is marked, and what it needs is read when it ends.
+// checked first, but for the chain of the fields between 35 and 10: these are walked once, and bytes that are no field are
+// refused where they stand. What stands before 268 is one place, and each entry of the group is another. What a place holds
+// is marked, and what it needs is read when it ends.
 ghost use mathlib.Core.Path.{_≡_};
 ghost use Prim.Native.Nat.{_≤_, _<_};
 ghost use lib.ListN.{length};
 ghost use Rattle.message.specs.Message.{told};
+ghost use Rattle.frame.specs.Frames.{frameOf};
 ghost use Rattle.frame.specs.Places.{left};
-ghost use Rattle.tags.specs.Slots.{marked, Chained};
+ghost use Rattle.tags.specs.Slots.{marked};
 ghost use Rattle.entries.specs.Entries.{said};
 ghost use Rattle.fields.specs.Messages.{nextOn, nextAfter, otherOf, changesOf, snapshotOf, orBadFields, typedAs, messageIn};
-ghost use Rattle.fields.specs.Groups.{bareOf, topX, topW, topped, entryNext, Fair, grouped, counted, answered, Leads, Finds};
+ghost use Rattle.fields.specs.Groups.{bareOf, refusalOf, topX, topW, topped, entryNext, Fair, grouped, counted, answered, Leads};
 ghost use Rattle.fields.specs.Reads.{runSize, Reads};
 use digits::Number;
 use entries::Said;
@@ -67,13 +69,6 @@ pub struct Lead {
     pub top: Top,
     pub at: usize,
     pub count: u64,
-}
-
-// The fields of a message as from..end of its bytes, and what leads to its entries.
-pub struct Found {
-    pub lead: Lead,
-    pub from: usize,
-    pub end: usize,
 }
 
 pub enum Topped {
@@ -202,7 +197,7 @@ fn entry(s: &[u8], depth: u64, t: Top, next: Next, m: Marks) -> Said
 
 // The entries of a group from `start` on, which 268 counts, into the run.
 fn listed(s: &[u8], start: usize, count: u64, depth: u64, t: Top, run: &mut [u64]) -> Reading
-    requires { ⌜ Chained (now s) start × (Fair t × (count ≤ 64)) × (runSize ≤ length (now run)) ⌝ }
+    requires { ⌜ Fair t × ((count ≤ 64) × (runSize ≤ length (now run))) ⌝ }
     ensures { λ r. ⌜ Reads (answered t (grouped depth t count (left (now (s .entry)) start))) r (now (run .entry)) (now (run .exit)) ⌝ }
 {
     let end = s.len();
@@ -306,7 +301,7 @@ fn alone(s: &[u8], verdict: Verdict, number: u64, heard: u64) -> Lead
 
 // The group from 268 on.
 fn group(s: &[u8], start: usize, t: Top) -> Lead
-    requires { ⌜ Chained (now s) start × Fair t ⌝ }
+    requires { ⌜ Fair t ⌝ }
     ensures { λ r. ⌜ Leads (now (s .entry)) r (λ depth. answered t (counted depth t (left (now (s .entry)) start))) ⌝ }
 {
     if s.len() <= start {
@@ -324,7 +319,6 @@ fn group(s: &[u8], start: usize, t: Top) -> Lead
 
 // X.
 fn changes(s: &[u8]) -> Lead
-    requires { ⌜ Chained (now s) 0 ⌝ }
     ensures { λ r. ⌜ Leads (now (s .entry)) r (λ depth. told (orBadFields (changesOf depth (left (now (s .entry)) 0)))) ⌝ }
 {
     let p = tags::walk(s, 0, COUNT_TAG, tags::NAMED, HEAD, HEAD_X_END);
@@ -340,7 +334,6 @@ fn changes(s: &[u8]) -> Lead
 
 // W.
 fn snapshot(s: &[u8]) -> Lead
-    requires { ⌜ Chained (now s) 0 ⌝ }
     ensures { λ r. ⌜ Leads (now (s .entry)) r (λ depth. told (orBadFields (snapshotOf depth (left (now (s .entry)) 0)))) ⌝ }
 {
     let p = tags::walk(s, 0, COUNT_TAG, tags::NAMED, HEAD, HEAD_W_END);
@@ -356,7 +349,6 @@ fn snapshot(s: &[u8]) -> Lead
 
 // 0, f, y, B.
 fn other(s: &[u8]) -> Lead
-    requires { ⌜ Chained (now s) 0 ⌝ }
     ensures { λ r. ⌜ Leads (now (s .entry)) r (λ depth. told (orBadFields (otherOf (left (now (s .entry)) 0)))) ⌝ }
 {
     let p = tags::walk(s, 0, COUNT_TAG, HEAD_X_END, HEAD, HEAD_X_END);
@@ -376,7 +368,6 @@ fn other(s: &[u8]) -> Lead
 
 // The fields between 35 and 10, by the type.
 fn typed(s: &[u8], kind: u8) -> Lead
-    requires { ⌜ Chained (now s) 0 ⌝ }
     ensures { λ r. ⌜ Leads (now (s .entry)) r (λ depth. told (orBadFields (typedAs depth kind (left (now (s .entry)) 0)))) ⌝ }
 {
     if kind == b'X' {
@@ -388,52 +379,43 @@ fn typed(s: &[u8], kind: u8) -> Lead
     other(s)
 }
 
-// What leads to the entries of a message.
-fn lead_of(s: &[u8]) -> Found
-    ensures { λ r. ⌜ Finds (now (s .entry)) r ⌝ }
+// Why a message is not read: its frame, or else a breach under "Fields".
+fn refusal(s: &[u8]) -> Reading
+    ensures { λ r. ⌜ r ≡ bareOf (refusalOf (frameOf (now (s .entry)))) 0 0 .reading ⌝ }
 {
     match frame::frame(s) {
-        Framed::BadFrame => {
-            let none = alone(&s[0..0], Verdict::BadFrame, 0, 0);
-            Found {
-                lead: none,
-                from: 0,
-                end: 0,
-            }
-        }
-        Framed::BadSum => {
-            let none = alone(&s[0..0], Verdict::BadSum, 0, 0);
-            Found {
-                lead: none,
-                from: 0,
-                end: 0,
-            }
-        }
-        Framed::BadType => {
-            let none = alone(&s[0..0], Verdict::BadType, 0, 0);
-            Found {
-                lead: none,
-                from: 0,
-                end: 0,
-            }
-        }
-        Framed::Is { kind, from } => {
-            let end = s.len() - TRAILER;
-            let l = typed(&s[from..end], kind);
-            Found { lead: l, from, end }
-        }
+        Framed::BadFrame => bare(Verdict::BadFrame, 0, 0),
+        Framed::BadSum => bare(Verdict::BadSum, 0, 0),
+        Framed::BadType => bare(Verdict::BadType, 0, 0),
+        Framed::Is { kind: _, from: _ } => bare(Verdict::BadFields, 0, 0),
     }
 }
 
-// The message that bytes are, on a channel of a depth kind. Its entries are written into the run.
+// The fields between 35 and 10 on a channel of a depth kind. Their entries are written into the run.
+fn body(s: &[u8], kind: u8, depth: u64, run: &mut [u64]) -> Reading
+    requires { ⌜ runSize ≤ length (now run) ⌝ }
+    ensures { λ r. ⌜ Reads (told (orBadFields (typedAs depth kind (left (now (s .entry)) 0)))) r (now (run .entry)) (now (run .exit)) ⌝ }
+{
+    let l = typed(s, kind);
+    let t = l.top;
+    listed(s, l.at, l.count, depth, t, run)
+}
+
+// The message that bytes are, on a channel of a depth kind. Its entries are written into the run. It is walked once; only
+// where it is not read is its frame asked whether its fields are a chain.
 pub fn read(s: &[u8], depth: u64, run: &mut [u64]) -> Reading
     requires { ⌜ runSize ≤ length (now run) ⌝ }
     ensures { λ r. ⌜ Reads (told (messageIn depth (now (s .entry)))) r (now (run .entry)) (now (run .exit)) ⌝ }
 {
-    let f = lead_of(s);
-    let l = f.lead;
-    let from = f.from;
-    let end = f.end;
-    let t = l.top;
-    listed(&s[from..end], l.at, l.count, depth, t, run)
+    let Framed::Is { kind, from } = frame::outline(s) else {
+        return refusal(s);
+    };
+    let end = s.len() - TRAILER;
+    let r = body(&s[from..end], kind, depth, run);
+    let v = r.verdict;
+    match v {
+        Verdict::Numbered => r,
+        Verdict::Snapshot => r,
+        _ => refusal(s),
+    }
 }

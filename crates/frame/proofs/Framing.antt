@@ -18,14 +18,14 @@ use Rattle.frame.specs.Fields.{Field, field, fieldsOf}
 use Rattle.frame.specs.Bytes.{fieldBytes, bytesOf, fair, allFair}
 use Rattle.frame.specs.Frames.{equal, total, begin, reads, begins, counts, sumOf, typed, summed, lastOf, frontOf, chained, frameOf, ended}
 use Rattle.frame.specs.Places.{part, isSome}
-use Rattle.frame.specs.ByPlace.{preamble, trailerOf, partsOf, judged}
+use Rattle.frame.specs.ByPlace.{preamble, trailerOf, partsOf, judged, outlineOf, frameIn}
 use Rattle.frame.specs.declared.Shape.{Shape}
 use Rattle.frame.specs.declared.Framed.{Framed}
 use Rattle.frame.proofs.Shortest.{read-digits, fixed-back, decimal-back}
 use Rattle.frame.proofs.Walk.{found}
 use Rattle.frame.proofs.Inverse.{Chain, fields-only}
 use Rattle.frame.proofs.Opened.{equal-is, opened, opened-inside, Shaped, shaped}
-use Rattle.frame.proofs.Well.{Well, whole-is, ten-bytes, length-ten, parts-well, frame-well}
+use Rattle.frame.proofs.Well.{Well, whole-is, ten-bytes, length-ten, chain-well, parts-well, frame-well}
 
 -- three digits are what they say, in three digits
 pub three-digits : (z : List ℕ) (v : ℕ) → length z ≡ 3 → digitsOf 3 z ≡ Number.Is v → (fixed 3 v ≡ z) × (v < 1000)
@@ -64,7 +64,7 @@ some-is : (o : Option (List Field)) → isSome o ≡ true → (fs : List Field) 
 some-is none e = let z : _≡_ {A = ℕ} 0 1 = cc in absurd (omega arith)
 some-is (some fs) e = (fs, refl)
 
-module _ (s : List ℕ) {from to v : ℕ} (x : Shaped s from to v) where
+module _ (s : List ℕ) {from to v : ℕ} (x : Shaped s from to v) (chain : isSome (fieldsOf (part (to + 1) (length s - 7) s)) ≡ true) where
   abbrev end : ℕ
   end = length s - 7
 
@@ -72,7 +72,7 @@ module _ (s : List ℕ) {from to v : ℕ} (x : Shaped s from to v) where
   c = part from to s
 
   chained-body : (fs : List Field) × (fieldsOf (part (to + 1) end s) ≡ some fs)
-  chained-body = some-is (fieldsOf (part (to + 1) end s)) (x .chain)
+  chained-body = some-is (fieldsOf (part (to + 1) end s)) chain
 
   abbrev body : List Field
   body = chained-body .0
@@ -222,36 +222,59 @@ frame-cases s = go (leb 1 (length s)) (leb (length s) 8192) (fieldsOf s) refl re
     go true true (some (a ∷ b ∷ c ∷ fs)) p e = testing a b c fs (begins a) (counts b (c ∷ frontOf fs)) (eqb (c .tag) 35) e (leb-true (length s) 8192 p) refl refl refl
 
 -- the frame by its places
-pub by-places : (s : List ℕ) → frameOf s ≡ judged s (partsOf s)
+pub by-places : (s : List ℕ) → frameOf s ≡ frameIn s (partsOf s)
 by-places s = go (partsOf s) refl (frame-cases s)
   where
-    held : Held s → frameOf s ≡ judged s (partsOf s)
-    held h = frame-well s (h .c) (h .body) (h .v) (h .well) ∙ ap (judged s) (sym (parts-well s (h .c) (h .body) (h .v) (h .well)))
+    held : Held s → frameOf s ≡ frameIn s (partsOf s)
+    held h =
+        frame-well s (h .c) (h .body) (h .v) (h .well)
+        ∙ rw (parts-well s (h .c) (h .body) (h .v) (h .well), chain-well s (h .c) (h .body) (h .v) (h .well))
 
-    go : (x : Shape) → partsOf s ≡ x → (frameOf s ≡ Framed.BadFrame) ⊎ Held s → frameOf s ≡ judged s (partsOf s)
+    chained-or : {from to v : ℕ} (z : Bool) → partsOf s ≡ Shape.Is from to v → isSome (fieldsOf (part (to + 1) (length s - 7) s)) ≡ z
+        → frameOf s ≡ Framed.BadFrame → frameOf s ≡ frameIn s (partsOf s)
+    chained-or true e p q = held (shaped-held s (shaped s e) p)
+    chained-or false e p q = q ∙ rw (e, p)
+
+    go : (x : Shape) → partsOf s ≡ x → (frameOf s ≡ Framed.BadFrame) ⊎ Held s → frameOf s ≡ frameIn s (partsOf s)
     go x e (inr h) = held h
     go Shape.No e (inl q) = q ∙ rw e
-    go (Shape.Is from to v) e (inl q) = held (shaped-held s (shaped s e))
+    go (Shape.Is from to v) e (inl q) = chained-or (isSome (fieldsOf (part (to + 1) (length s - 7) s))) e refl q
 
 module _ (s : List ℕ) where
   pub no-frame : partsOf s ≡ Shape.No → frameOf s ≡ Framed.BadFrame
   no-frame e = by-places s ∙ rw e
 
-  module _ {from to v : ℕ} (e : partsOf s ≡ Shape.Is from to v) (u : ℕ) (sum : u ≡ total (take (length s - 7) s) % 256) where
-    pub other-sum : (u ≡ v → ⊥) → frameOf s ≡ Framed.BadSum
-    other-sum h = by-places s ∙ rw (e, ← sum, ne-eqb v u (λ q. h (sym q)))
+  module _ {from to v : ℕ} (e : partsOf s ≡ Shape.Is from to v) where
+    pub no-chain : isSome (fieldsOf (part (to + 1) (length s - 7) s)) ≡ false → frameOf s ≡ Framed.BadFrame
+    no-chain p = by-places s ∙ rw (e, p)
 
-    pub right-sum : u ≡ v → frameOf s ≡ typed (part from to s) (to + 1)
-    right-sum h = by-places s ∙ rw (e, ← sum, eq-eqb v u (sym h))
+    pub a-chain : isSome (fieldsOf (part (to + 1) (length s - 7) s)) ≡ true → frameOf s ≡ judged s from to v
+    a-chain p = by-places s ∙ rw (e, p)
+
+  pub no-outline : partsOf s ≡ Shape.No → outlineOf s ≡ Framed.BadFrame
+  unfolding outlineOf
+  no-outline e = rw e
+
+  pub an-outline : {from to v : ℕ} → partsOf s ≡ Shape.Is from to v → outlineOf s ≡ judged s from to v
+  unfolding outlineOf
+  an-outline e = rw e
+
+  module _ (from to v u : ℕ) (sum : u ≡ total (take (length s - 7) s) % 256) where
+    pub other-sum : (u ≡ v → ⊥) → judged s from to v ≡ Framed.BadSum
+    other-sum h = rw (← sum, ne-eqb v u (λ q. h (sym q)))
+
+    pub right-sum : u ≡ v → judged s from to v ≡ typed (part from to s) (to + 1)
+    right-sum h = rw (← sum, eq-eqb v u (sym h))
 
 -- where the type stands
 pub record Placed (s : List ℕ) (from to : ℕ) : Type 0 where
   pub some : from < to
   pub high : to < length s
   pub long : 7 ≤ length s
+  pub order : to + 1 ≤ length s - 7
 
 pub type-placed : (s : List ℕ) {from to v : ℕ} → partsOf s ≡ Shape.Is from to v → Placed s from to
 type-placed s e =
     let x = shaped s e in
     let i = opened-inside s (x .head) in
-    record { some = i .some; high = i .high; long = omega (arith, x .counts) }
+    record { some = i .some; high = i .high; long = omega (arith, x .counts); order = x .order }

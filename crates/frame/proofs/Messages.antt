@@ -14,11 +14,12 @@ use Rattle.text.specs.Text.{decimal}
 use Rattle.frame.specs.Fields.{Field, field, fieldsOf}
 use Rattle.frame.specs.Bytes.{bytesOf, fair, allFair}
 use Rattle.frame.specs.Frames.{total, isType, typed, frameOf, bodyOf, headed, ended, framed}
-use Rattle.frame.specs.Places.{part}
+use Rattle.frame.specs.Places.{part, isSome}
+use Rattle.frame.specs.ByPlace.{partsOf, judged, outlineIn, outlineOf, frameIn}
+use Rattle.frame.specs.declared.Shape.{Shape}
 use Rattle.frame.specs.declared.Framed.{Framed}
-use Rattle.frame.proofs.Inverse.{fields-back}
-use Rattle.frame.proofs.Well.{Well, type-at, summed-at, body-at, body-well, fields-well, frame-well, whole-length, inner-length}
-use Rattle.frame.proofs.Framing.{Held, frame-cases}
+use Rattle.frame.proofs.Well.{Well, type-at, summed-at, chain-well, body-well, fields-well, frame-well, whole-length, inner-length}
+use Rattle.frame.proofs.Framing.{Held, frame-cases, by-places, a-chain, type-placed}
 
 -- what is known of a message with a good frame: the type, and where the fields after 35 stand and which they are
 pub record Framing (s : List ℕ) (kind from : ℕ) : Type 0 where
@@ -75,7 +76,7 @@ module _ (s : List ℕ) {kind from : ℕ} (e : frameOf s ≡ Framed.Is kind from
         short = w .short;
         long = omega (arith, l);
         inside = omega (arith, told .1 .2, l, i);
-        body = rw (← told .1 .2, body-at s c body v w, b) (fields-back body (both (fair (field 35 c)) (allFair body) (w .fair) .1));
+        body = rw (← told .1 .2, b) (chain-well s c body v w);
         fair = rw b (both (fair (field 35 c)) (allFair body) (w .fair) .1);
         fields = fields-well s c body v w ∙ ap some (sym framed-is);
         same = w .same ∙ ap bytesOf (sym framed-is);
@@ -87,6 +88,38 @@ framing s {kind} {from} e = go (frame-cases s)
     go : (frameOf s ≡ Framed.BadFrame) ⊎ Held s → Framing s kind from
     go (inl q) = absurd (never s e q)
     go (inr h) = framing-of s e (h .c) (h .body) (h .v) (h .well)
+
+-- ---- what an outline says
+pub record Outline (s : List ℕ) (kind from : ℕ) : Type 0 where
+  pub type : isType kind ≡ true
+  pub long : 7 ≤ length s
+  pub inside : from ≤ length s - 7
+  pub frame : isSome (fieldsOf (part from (length s - 7) s)) ≡ true → frameOf s ≡ Framed.Is kind from
+
+pub outline : (s : List ℕ) {kind from : ℕ} → outlineOf s ≡ Framed.Is kind from → Outline s kind from
+unfolding outlineOf
+outline s {kind} {from} e = go (partsOf s) refl e
+  where
+    go : (x : Shape) → partsOf s ≡ x → outlineIn s x ≡ Framed.Is kind from → Outline s kind from
+    go Shape.No p h = let z : _≡_ {A = ℕ} 0 1 = cc in absurd (omega arith)
+    go (Shape.Is a b v) p h =
+        let j = judged-is v (total (take (length s - 7) s) % 256) (typed (part a b s) (b + 1)) h in
+        let t = typed-is (part a b s) (b + 1) (j .1) in
+        let x = type-placed s p in
+        record { type = t .1; long = x .long; inside = omega (arith, t .2, x .order); frame = λ c. a-chain s p (rw (← t .2) at c) ∙ h }
+
+-- a message with a good frame has that outline
+pub outlined : (s : List ℕ) {kind from : ℕ} → frameOf s ≡ Framed.Is kind from → outlineOf s ≡ Framed.Is kind from
+unfolding outlineOf
+outlined s {kind} {from} e = go (partsOf s) (sym (by-places s) ∙ e)
+  where
+    chain : (z : Bool) (r : Framed) → cond z r Framed.BadFrame ≡ Framed.Is kind from → r ≡ Framed.Is kind from
+    chain true r h = h
+    chain false r h = let z : _≡_ {A = ℕ} 0 1 = cc in absurd (omega arith)
+
+    go : (x : Shape) → frameIn s x ≡ Framed.Is kind from → outlineIn s x ≡ Framed.Is kind from
+    go Shape.No h = h
+    go (Shape.Is a b v) h = chain (isSome (fieldsOf (part (b + 1) (length s - 7) s))) (judged s a b v) h
 
 -- ---- the writer's side
 type-fair : (k : ℕ) → isType k ≡ true → fair (field 35 (k ∷ [])) ≡ true

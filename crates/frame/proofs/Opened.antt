@@ -2,7 +2,6 @@
 use mathlib.Core.Path.{_≡_, refl, ap, _∙_}
 use mathlib.Core.List.{List, [], _∷_}
 use mathlib.Core.Bool.{Bool, true, false, cond, _&&_}
-use mathlib.Core.Option.{some}
 use Prim.Native.Nat.{ℕ, _+_, _-_, _≤_, _<_}
 use native.Mathlib.Omega.{arith}
 use borrow.Author.Tests.{eqb-true, eq-eqb, leb-true}
@@ -11,9 +10,8 @@ use lib.ListN.{length, getD, take, length-take}
 use Rattle.digits.specs.Digits.{wholeOf}
 use Rattle.digits.specs.declared.Number.{Number}
 use Rattle.digits.proofs.Width.{both, whole-below}
-use Rattle.frame.specs.Fields.{fieldsOf}
 use Rattle.frame.specs.Frames.{equal, isType, typed}
-use Rattle.frame.specs.Places.{part, fieldAt, isSome}
+use Rattle.frame.specs.Places.{part, fieldAt}
 use Rattle.frame.specs.ByPlace.{tagged, preamble, thirdOf, countOf, secondOf, headOf, trailerOf, sumRead, partsIn, partsOf}
 use Rattle.frame.specs.declared.Step.{Step}
 use Rattle.frame.specs.declared.Opening.{Opening}
@@ -122,7 +120,6 @@ pub record Shaped (s : List ℕ) (from to v : ℕ) : Type 0 where
   pub head : headOf s ≡ Opening.Is count at from to
   pub counts : at + count + 7 ≡ length s
   pub order : to + 1 ≤ length s - 7
-  pub chain : isSome (fieldsOf (part (to + 1) (length s - 7) s)) ≡ true
   pub trailer : trailerOf (part (length s - 7) (length s) s) ≡ Number.Is v
 
 pub shaped : (s : List ℕ) {from to v : ℕ} → partsOf s ≡ Shape.Is from to v → Shaped s from to v
@@ -130,24 +127,22 @@ unfolding partsOf
 shaped s {from} {to} {v} e = go (leb (length s) 8192) (headOf s) refl refl e
   where
     read : (n at a c : ℕ) (r : Number) → length s ≤ 8192 → headOf s ≡ Opening.Is n at a c → at + n + 7 ≡ length s → c + 1 ≤ length s - 7
-        → isSome (fieldsOf (part (c + 1) (length s - 7) s)) ≡ true
         → trailerOf (part (length s - 7) (length s) s) ≡ r → sumRead a c r ≡ Shape.Is from to v → Shaped s from to v
-    read n at a c Number.No l h p q r t x = let z : _≡_ {A = ℕ} 0 1 = cc in absurd (omega arith)
-    read n at a c (Number.Is u) l h p q r t x =
+    read n at a c Number.No l h p q t x = let z : _≡_ {A = ℕ} 0 1 = cc in absurd (omega arith)
+    read n at a c (Number.Is u) l h p q t x =
         let i : a ≡ from = cc in
         let j : c ≡ to = cc in
         let k : u ≡ v = cc in
-        rw (← i, ← j, ← k) (record { short = l; count = n; at = at; head = h; counts = p; order = q; chain = r; trailer = t })
+        rw (← i, ← j, ← k) (record { short = l; count = n; at = at; head = h; counts = p; order = q; trailer = t })
 
-    tested : (n at a c : ℕ) (x y w : Bool) → length s ≤ 8192 → headOf s ≡ Opening.Is n at a c
-        → eqb (at + n + 7) (length s) ≡ x → leb (c + 1) (length s - 7) ≡ y → isSome (fieldsOf (part (c + 1) (length s - 7) s)) ≡ w
-        → cond (x && (y && w)) (sumRead a c (trailerOf (part (length s - 7) (length s) s))) Shape.No ≡ Shape.Is from to v → Shaped s from to v
-    tested n at a c true true true l h p q r t = read n at a c (trailerOf (part (length s - 7) (length s) s)) l h (eqb-true (at + n + 7) (length s) p) (leb-true (c + 1) (length s - 7) q) r refl t
-    tested n at a c true true false l h p q r t = let z : _≡_ {A = ℕ} 0 1 = cc in absurd (omega arith)
-    tested n at a c true false w l h p q r t = let z : _≡_ {A = ℕ} 0 1 = cc in absurd (omega arith)
-    tested n at a c false y w l h p q r t = let z : _≡_ {A = ℕ} 0 1 = cc in absurd (omega arith)
+    tested : (n at a c : ℕ) (x y : Bool) → length s ≤ 8192 → headOf s ≡ Opening.Is n at a c
+        → eqb (at + n + 7) (length s) ≡ x → leb (c + 1) (length s - 7) ≡ y
+        → cond (x && y) (sumRead a c (trailerOf (part (length s - 7) (length s) s))) Shape.No ≡ Shape.Is from to v → Shaped s from to v
+    tested n at a c true true l h p q t = read n at a c (trailerOf (part (length s - 7) (length s) s)) l h (eqb-true (at + n + 7) (length s) p) (leb-true (c + 1) (length s - 7) q) refl t
+    tested n at a c true false l h p q t = let z : _≡_ {A = ℕ} 0 1 = cc in absurd (omega arith)
+    tested n at a c false y l h p q t = let z : _≡_ {A = ℕ} 0 1 = cc in absurd (omega arith)
 
     go : (t : Bool) (o : Opening) → leb (length s) 8192 ≡ t → headOf s ≡ o → cond t (partsIn s o) Shape.No ≡ Shape.Is from to v → Shaped s from to v
     go true Opening.No p h x = let z : _≡_ {A = ℕ} 0 1 = cc in absurd (omega arith)
-    go true (Opening.Is n at a c) p h x = tested n at a c (eqb (at + n + 7) (length s)) (leb (c + 1) (length s - 7)) (isSome (fieldsOf (part (c + 1) (length s - 7) s))) (leb-true (length s) 8192 p) h refl refl refl x
+    go true (Opening.Is n at a c) p h x = tested n at a c (eqb (at + n + 7) (length s)) (leb (c + 1) (length s - 7)) (leb-true (length s) 8192 p) h refl refl x
     go false o p h x = let z : _≡_ {A = ℕ} 0 1 = cc in absurd (omega arith)

@@ -1,15 +1,15 @@
--- The chain of fields, one field at a time. Assumes nothing.
+-- Fields one at a time: a chain of them, and those up to bytes that are none. Assumes nothing.
 use mathlib.Core.Path.{_≡_, refl, sym, ap, _∙_}
 use mathlib.Core.List.{List, [], _∷_, _++_, append-assoc, append-nil}
-use mathlib.Core.Bool.{Bool, true, false, cond, false≢true}
+use mathlib.Core.Bool.{Bool, true, false, cond, _&&_}
 use mathlib.Core.Option.{Option, none, some}
 use Prim.Native.Nat.{ℕ, suc, _+_, _-_, _≤_, _<_}
 use native.Mathlib.Omega.{arith}
 use native.Mathlib.Nat.{add-assoc}
 use native.Mathlib.Numerals.{add-one}
 use borrow.Author.Tests.{ltb-true, ltb-false, le-leb}
-use lib.Dec.{ltb, eqb}
-use lib.ListN.{length, take, drop, length-drop, take-append-drop, drop-of-length-le}
+use lib.Dec.{leb, ltb, eqb}
+use lib.ListN.{length, getD, take, drop, length-drop, take-append-drop, drop-of-length-le}
 use lib.Seq.{drop-cons, drop-drop, length-take-le}
 use Rattle.digits.specs.Digits.{rangedOf}
 use Rattle.digits.specs.declared.Number.{Number}
@@ -18,37 +18,50 @@ use Rattle.digits.proofs.Ranges.{ranged-in}
 use Rattle.text.specs.Text.{decimal, free}
 use Rattle.frame.specs.Fields.{Field, field, ahead, before, behind, named, fieldOf, then, closed, cut, fieldsOf}
 use Rattle.frame.specs.Bytes.{fieldBytes, fair}
-use Rattle.frame.specs.Places.{part, firstOf, placed, fieldAt, isSome, given, left}
+use Rattle.frame.specs.Places.{part, firstOf, placed, fieldAt, isSome, broken, onto, over, run, left}
 use Rattle.frame.specs.declared.Step.{Step}
 use Rattle.frame.proofs.Ahead.{ahead-le, at-ahead, before-free, free-drop, drop-take}
 use Rattle.frame.proofs.Shortest.{ranged-whole, decimal-back}
 
--- ---- up to the next SOH
-cut-go : (t : Bool) (b : ℕ) (bs p : List ℕ) (n : ℕ)
-    → (t ≡ false → cut (p ++ (b ∷ [])) bs ≡ then (fieldOf ((p ++ (b ∷ [])) ++ take n bs)) (cut [] (drop (n + 1) bs)))
-    → cond t (then (fieldOf p) (cut [] bs)) (cut (p ++ (b ∷ [])) bs)
-    ≡ then (fieldOf (p ++ take (cond t 0 (n + 1)) (b ∷ bs))) (cut [] (drop (cond t 0 (n + 1) + 1) (b ∷ bs)))
-cut-go true b bs p n h = rw append-nil
-cut-go false b bs p n h = simp add-one (simp (add-one, append-assoc) at (h refl))
+-- ---- bytes that are read field by field, whatever is made of the fields
+pub record Reads (A : Type 0) : Type 0 where
+  pub bad : A
+  pub over : List ℕ → A
+  pub more : Option Field → A → A
+  pub read : List ℕ → List ℕ → A
+  pub rest : (b : ℕ) (bs : List ℕ) → over (b ∷ bs) ≡ bad
+  pub none : (r : A) → more none r ≡ bad
+  pub nil : (p : List ℕ) → read p [] ≡ over p
+  pub cons : (p : List ℕ) (b : ℕ) (bs : List ℕ) → read p (b ∷ bs) ≡ cond (eqb b 1) (more (fieldOf p) (read [] bs)) (read (p ++ (b ∷ [])) bs)
 
-cut-to : (bs p : List ℕ) → ahead 1 bs < length bs → cut p bs ≡ then (fieldOf (p ++ before 1 bs)) (cut [] (behind 1 bs))
-unfolding cut
-cut-to [] p h = absurd (omega arith)
-cut-to (b ∷ bs) p h =
-    cut-go (eqb b 1) b bs p (ahead 1 bs)
-    (λ e. let k : ahead 1 bs + 1 < suc (length bs) = rw e at h in cut-to bs (p ++ (b ∷ [])) (omega arith))
+module _ {A : Type 0} (x : Reads A) where
+  -- up to the next SOH
+  to-soh : (bs p : List ℕ) → ahead 1 bs < length bs → x .read p bs ≡ x .more (fieldOf (p ++ before 1 bs)) (x .read [] (behind 1 bs))
+  to-soh [] p h = absurd (omega arith)
+  to-soh (b ∷ bs) p h = x .cons p b bs ∙ go (eqb b 1) h (λ l. to-soh bs (p ++ (b ∷ [])) l)
+    where
+      go : (t : Bool) → cond t 0 (ahead 1 bs + 1) < suc (length bs)
+          → (ahead 1 bs < length bs → x .read (p ++ (b ∷ [])) bs ≡ x .more (fieldOf ((p ++ (b ∷ [])) ++ before 1 bs)) (x .read [] (behind 1 bs)))
+          → cond t (x .more (fieldOf p) (x .read [] bs)) (x .read (p ++ (b ∷ [])) bs)
+          ≡ x .more (fieldOf (p ++ take (cond t 0 (ahead 1 bs + 1)) (b ∷ bs))) (x .read [] (drop (cond t 0 (ahead 1 bs + 1) + 1) (b ∷ bs)))
+      go true l i = rw append-nil
+      go false l i = simp add-one (simp (add-one, append-assoc) at (i (omega arith)))
 
--- ---- no SOH
-cut-off-go : (t : Bool) (b : ℕ) (bs p : List ℕ) (n : ℕ) → cond t 0 (n + 1) ≡ suc (length bs)
-    → (n ≡ length bs → cut (p ++ (b ∷ [])) bs ≡ closed ((p ++ (b ∷ [])) ++ bs))
-    → cond t (then (fieldOf p) (cut [] bs)) (cut (p ++ (b ∷ [])) bs) ≡ closed (p ++ (b ∷ bs))
-cut-off-go true b bs p n q h = absurd (omega arith)
-cut-off-go false b bs p n q h = simp append-assoc at (h (omega arith))
+  -- no SOH
+  to-end : (bs p : List ℕ) → ahead 1 bs ≡ length bs → x .read p bs ≡ x .over (p ++ bs)
+  to-end [] p h = x .nil p ∙ rw append-nil
+  to-end (b ∷ bs) p h = x .cons p b bs ∙ go (eqb b 1) h (λ q. to-end bs (p ++ (b ∷ [])) q)
+    where
+      go : (t : Bool) → cond t 0 (ahead 1 bs + 1) ≡ suc (length bs)
+          → (ahead 1 bs ≡ length bs → x .read (p ++ (b ∷ [])) bs ≡ x .over ((p ++ (b ∷ [])) ++ bs))
+          → cond t (x .more (fieldOf p) (x .read [] bs)) (x .read (p ++ (b ∷ [])) bs) ≡ x .over (p ++ (b ∷ bs))
+      go true q i = absurd (omega arith)
+      go false q i = simp append-assoc at (i (omega arith))
 
-cut-off : (bs p : List ℕ) → ahead 1 bs ≡ length bs → cut p bs ≡ closed (p ++ bs)
-unfolding cut
-cut-off [] p h = rw append-nil
-cut-off (b ∷ bs) p h = cut-off-go (eqb b 1) b bs p (ahead 1 bs) h (λ e. cut-off bs (p ++ (b ∷ [])) e)
+  -- what a step says of what is left
+  abbrev pub after : List ℕ → Step → A
+  after s Step.No = x .bad
+  after s (Step.Is t from to) = x .more (some (field t (part from to s))) (x .read [] (drop (to + 1) s))
 
 -- ---- what a field's bytes are
 pub record Parted (p : List ℕ) (f : Field) : Type 0 where
@@ -89,11 +102,6 @@ module _ (p : List ℕ) (f : Field) (h : fieldOf p ≡ some f) where
         le-leb 1 (length (f .text)) (x .some),
         ← x .text,
       ) (free-drop 1 (ahead 61 p + 1) p g)
-
--- ---- what a step says of the chain that is left
-abbrev pub after : List ℕ → Step → Option (List Field)
-after s Step.No = none
-after s (Step.Is t from to) = then (some (field t (part from to s))) (fieldsOf (drop (to + 1) s))
 
 -- a field that stands at at..to
 pub record Found (s : List ℕ) (at t from to : ℕ) : Type 0 where
@@ -153,24 +161,25 @@ module _ (s : List ℕ) (at : ℕ) where
           same = rw text-is (piece ∙ simp append-assoc);
         }
 
-  -- the chain that is left, by the field at its start
-  pub step : at < length s → fieldsOf rest ≡ after s (fieldAt s at)
-  unfolding fieldsOf fieldAt
-  step low = go (ltb (firstOf 1 s at) (length s)) refl
+  -- what is left, by the field at its start
+  step : {A : Type 0} (x : Reads A) → at < length s → x .read [] rest ≡ after x s (fieldAt s at)
+  unfolding fieldAt
+  step x low = go (ltb (firstOf 1 s at) (length s)) refl
     where
       pick : (o : Option Field) → fieldOf (before 1 rest) ≡ o → firstOf 1 s at < length s
-          → then o (cut [] (drop (firstOf 1 s at + 1) s)) ≡ after s (placed (firstOf 1 s at) o)
-      pick none e l = refl
+          → x .more o (x .read [] (drop (firstOf 1 s at + 1) s)) ≡ after x s (placed (firstOf 1 s at) o)
+      pick none e l = x .none (x .read [] (drop (firstOf 1 s at + 1) s))
       pick (some f) e l = rw (text-is f l e)
 
       go : (z : Bool) → ltb (firstOf 1 s at) (length s) ≡ z
-          → cut [] rest ≡ after s (cond z (placed (firstOf 1 s at) (fieldOf (before 1 rest))) Step.No)
+          → x .read [] rest ≡ after x s (cond z (placed (firstOf 1 s at) (fieldOf (before 1 rest))) Step.No)
       go true e =
           let l : firstOf 1 s at < length s = ltb-true (firstOf 1 s at) (length s) e in
-          cut-to rest [] (rw length-drop (omega arith)) ∙ rw behind-is (pick (fieldOf (before 1 rest)) refl l)
+          to-soh x rest [] (rw length-drop (omega arith)) ∙ rw behind-is (pick (fieldOf (before 1 rest)) refl l)
       go false e =
           let l : length s ≤ firstOf 1 s at = ltb-false (firstOf 1 s at) (length s) e in
-          cut-off rest [] (rw length-drop (omega (arith, ahead-le 1 rest, length-drop at s))) ∙ rw (drop-cons s at 0 low)
+          to-end x rest [] (rw length-drop (omega (arith, ahead-le 1 rest, length-drop at s)))
+          ∙ ap (x .over) (drop-cons s at 0 low) ∙ x .rest (getD s at 0) (drop (suc at) s)
 
   -- what is known of the field at a place
   pub found : {t from to : ℕ} → fieldAt s at ≡ Step.Is t from to → Found s at t from to
@@ -187,41 +196,96 @@ module _ (s : List ℕ) (at : ℕ) where
           rw (← a, ← b, ← d) (piece-found f (ltb-true (firstOf 1 s at) (length s) p) q)
       go false o p q h = let z : _≡_ {A = ℕ} 0 1 = cc in absurd (omega arith)
 
--- ---- the walk
+-- ---- the walk along a chain
+chain : Reads (Option (List Field))
+unfolding cut
+chain = record { bad = none; over = closed; more = then; read = cut; rest = λ b bs. refl; none = λ r. refl; nil = λ p. refl; cons = λ p b bs. refl }
+
 is-some-then : (f : Field) (r : Option (List Field)) → isSome (then (some f) r) ≡ isSome r
 is-some-then f none = refl
 is-some-then f (some fs) = refl
 
 module _ (s : List ℕ) (at : ℕ) where
   pub ends : at < length s → fieldAt s at ≡ Step.No → isSome (fieldsOf (drop at s)) ≡ false
-  ends l e = rw (step s at l, e)
+  unfolding fieldsOf chain
+  ends l e = rw (step s at chain l, e)
 
   pub goes-on : {t from to : ℕ} → at < length s → fieldAt s at ≡ Step.Is t from to
       → isSome (fieldsOf (drop at s)) ≡ isSome (fieldsOf (drop (to + 1) s))
-  goes-on {t} {from} {to} l e = rw (step s at l, e) (is-some-then (field t (part from to s)) (fieldsOf (drop (to + 1) s)))
+  unfolding fieldsOf chain
+  goes-on {t} {from} {to} l e = rw (step s at chain l, e) (is-some-then (field t (part from to s)) (fieldsOf (drop (to + 1) s)))
 
   pub all-read : length s ≤ at → fieldsOf (drop at s) ≡ some []
   unfolding fieldsOf cut
   all-read h = rw (drop-of-length-le s h)
 
--- ---- a walk along what is known to be a chain
-pub record On (s : List ℕ) (at t from to : ℕ) : Type 0 where
-  pub cons : left s at ≡ field t (part from to s) ∷ left s (to + 1)
-  pub good : isSome (fieldsOf (drop (to + 1) s)) ≡ true
+-- ---- the walk along what may be none
+fields : Reads (List Field)
+unfolding run
+fields = record { bad = broken ∷ []; over = over; more = onto; read = run; rest = λ b bs. refl; none = λ r. refl; nil = λ p. refl; cons = λ p b bs. refl }
 
-module _ (s : List ℕ) (at : ℕ) (good : isSome (fieldsOf (drop at s)) ≡ true) where
-  pub never-no : at < length s → fieldAt s at ≡ Step.No → ⊥
-  never-no l e = false≢true (sym (ends s at l e) ∙ good)
+module _ (s : List ℕ) (at : ℕ) where
+  pub walked : length s ≤ at → left s at ≡ []
+  unfolding run
+  walked h = rw (drop-of-length-le s h)
 
-  pub walk-on : {t from to : ℕ} → at < length s → fieldAt s at ≡ Step.Is t from to → On s at t from to
-  walk-on {t} {from} {to} l e = record { cons = rw (step s at l, e) (go (fieldsOf (drop (to + 1) s)) more); good = more }
-    where
-      more : isSome (fieldsOf (drop (to + 1) s)) ≡ true
-      more = sym (goes-on s at l e) ∙ good
+  pub left-on : {t from to : ℕ} → at < length s → fieldAt s at ≡ Step.Is t from to → left s at ≡ field t (part from to s) ∷ left s (to + 1)
+  unfolding fields
+  left-on l e = step s at fields l ∙ rw e
 
-      go : (r : Option (List Field)) → isSome r ≡ true → given (then (some (field t (part from to s))) r) ≡ field t (part from to s) ∷ given r
-      go none h = absurd (false≢true h)
-      go (some fs) h = refl
+  pub left-no : at < length s → fieldAt s at ≡ Step.No → left s at ≡ broken ∷ []
+  unfolding fields
+  left-no l e = step s at fields l ∙ rw e
 
-pub walked : (s : List ℕ) (at : ℕ) → length s ≤ at → left s at ≡ []
-walked s at h = ap given (all-read s at h)
+-- the fields that are left are the chain, or end with what is none
+abbrev Comes : Option (List Field) → List Field → Type 0
+Comes none gs = (fs : List Field) × (gs ≡ fs ++ (broken ∷ []))
+Comes (some fs) gs = gs ≡ fs
+
+run-comes : (bs p : List ℕ) → Comes (cut p bs) (run p bs)
+unfolding cut run
+run-comes [] [] = refl
+run-comes [] (b ∷ p) = ([], refl)
+run-comes (b ∷ bs) p = go (eqb b 1) (run-comes bs []) (run-comes bs (p ++ (b ∷ [])))
+  where
+    one : (o : Option Field) (r : Option (List Field)) → Comes r (run [] bs) → Comes (then o r) (onto o (run [] bs))
+    one none r h = ([], refl)
+    one (some f) none h = (f ∷ h .0, ap (λ (gs : List Field). f ∷ gs) (h .1))
+    one (some f) (some fs) h = ap (λ (gs : List Field). f ∷ gs) h
+
+    go : (t : Bool) → Comes (cut [] bs) (run [] bs) → Comes (cut (p ++ (b ∷ [])) bs) (run (p ++ (b ∷ [])) bs)
+        → Comes (cond t (then (fieldOf p) (cut [] bs)) (cut (p ++ (b ∷ [])) bs)) (cond t (onto (fieldOf p) (run [] bs)) (run (p ++ (b ∷ [])) bs))
+    go true i j = one (fieldOf p) (cut [] bs) i
+    go false i j = j
+
+module _ (s : List ℕ) (at : ℕ) where
+  pub left-whole : {fs : List Field} → fieldsOf (drop at s) ≡ some fs → left s at ≡ fs
+  unfolding fieldsOf
+  left-whole e = rw e at (run-comes (drop at s) [])
+
+  pub left-broken : fieldsOf (drop at s) ≡ none → (fs : List Field) × (left s at ≡ fs ++ (broken ∷ []))
+  unfolding fieldsOf
+  left-broken e = rw e at (run-comes (drop at s) [])
+
+-- every tag is at least 1
+abbrev pub allTagged : List Field → Bool
+allTagged [] = true
+allTagged (f ∷ fs) = leb 1 (f .tag) && allTagged fs
+
+run-tagged : (bs p : List ℕ) → allTagged (run p bs) ≡ true
+unfolding run
+run-tagged [] [] = refl
+run-tagged [] (b ∷ p) = refl
+run-tagged (b ∷ bs) p = go (eqb b 1) (run-tagged bs []) (run-tagged bs (p ++ (b ∷ [])))
+  where
+    one : (o : Option Field) → fieldOf p ≡ o → allTagged (run [] bs) ≡ true → allTagged (onto o (run [] bs)) ≡ true
+    one none q i = refl
+    one (some f) q i = rw (le-leb 1 (f .tag) (ranged-in 5 1 99999 (before 61 p) (parted p f q .tag) .low), i)
+
+    go : (t : Bool) → allTagged (run [] bs) ≡ true → allTagged (run (p ++ (b ∷ [])) bs) ≡ true
+        → allTagged (cond t (onto (fieldOf p) (run [] bs)) (run (p ++ (b ∷ [])) bs)) ≡ true
+    go true i j = one (fieldOf p) refl i
+    go false i j = j
+
+pub left-tagged : (s : List ℕ) (at : ℕ) → allTagged (left s at) ≡ true
+left-tagged s at = run-tagged (drop at s) []

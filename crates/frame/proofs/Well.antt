@@ -164,10 +164,13 @@ module _ (s c : List ℕ) (body : List Field) (v : ℕ) (x : Well s c body v) wh
       let q : 12 + d + 1 ≡ at = omega arith in
       rw (begins-well, nine-stands .step, nine-stands .text, count-back, q, third-stands .step)
 
-  pub body-at : part (to + 1) (length s - 7) s ≡ bytesOf body
+  body-at : part (to + 1) (length s - 7) s ≡ bytesOf body
   body-at =
       let w : length s - 7 - (to + 1) ≡ length (bytesOf body) = omega (arith, whole-length, inner-length) in
       rw (w, third-stands .next) (take-append-seam (bytesOf body) (fieldBytes ten))
+
+  pub chain-well : fieldsOf (part (to + 1) (length s - 7) s) ≡ some body
+  chain-well = rw body-at (fields-back body (fairs .1))
 
   front : s ≡ bytesOf (headed between) ++ fieldBytes ten
   unfolding bytesOf
@@ -192,8 +195,6 @@ module _ (s c : List ℕ) (body : List Field) (v : ℕ) (x : Well s c body v) wh
         head-well,
         eq-eqb (at + n + 7) (length s) (omega (arith, whole-length)),
         le-leb (to + 1) (length s - 7) (omega (arith, whole-length, inner-length)),
-        body-at,
-        fields-back body (fairs .1),
         ten-at,
         trailer-back v (x .small),
       )
@@ -222,7 +223,7 @@ module _ (s c : List ℕ) (body : List Field) (v : ℕ) (x : Well s c body v) wh
     tags .1,
   ) (omega arith)
 
-  pub frame-well : frameOf s ≡ judged s (Shape.Is from to v)
+  pub frame-well : frameOf s ≡ judged s from to v
   unfolding frameOf
   frame-well =
       rw (

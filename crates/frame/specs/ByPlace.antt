@@ -1,5 +1,6 @@
--- The frame place by place, as the code reads it: 11 first, then the sum, then the type. No public contract cites these
--- definitions; `by-places` in proofs/Framing.antt shows that they come to `frameOf`. Assumes nothing.
+-- The frame place by place, as the code reads it: 11 first, then the sum, then the type. `by-places` in proofs/Framing.antt
+-- shows that they come to `frameOf`; of these definitions a public contract cites only `outlineOf`, and proofs/Messages.antt
+-- shows what it says of `frameOf`. Assumes nothing.
 use Prim.Native.Nat.{ℕ, _+_, _-_, _%_, _<_}
 use mathlib.Core.Path.{_≡_}
 use mathlib.Core.List.{List, [], _∷_}
@@ -56,19 +57,31 @@ abbrev pub sumRead : ℕ → ℕ → Number → Shape
 sumRead from to Number.No = Shape.No
 sumRead from to (Number.Is v) = Shape.Is from to v
 
--- 9 counts right, the fields after 35 are a chain up to the trailer, and it is three digits
+-- 9 counts right, and the trailer is three digits
 abbrev pub partsIn : List ℕ → Opening → Shape
 partsIn s Opening.No = Shape.No
 partsIn s (Opening.Is v at from to) =
-    cond (eqb (at + v + 7) (length s) && (leb (to + 1) (length s - 7) && isSome (fieldsOf (part (to + 1) (length s - 7) s))))
+    cond (eqb (at + v + 7) (length s) && leb (to + 1) (length s - 7))
     (sumRead from to (trailerOf (part (length s - 7) (length s) s)))
     Shape.No
 
--- the type and what 10 says, where nothing is 11
+-- the type and what 10 says, where nothing is 11 but for the chain of the fields after 35
 unfoldable pub partsOf : List ℕ → Shape
 partsOf s = cond (leb (length s) 8192) (partsIn s (headOf s)) Shape.No
 
--- then the sum, then the type
-abbrev pub judged : List ℕ → Shape → Framed
-judged s Shape.No = Framed.BadFrame
-judged s (Shape.Is from to v) = cond (eqb v (total (take (length s - 7) s) % 256)) (typed (part from to s) (to + 1)) Framed.BadSum
+-- the sum, then the type
+abbrev pub judged : List ℕ → ℕ → ℕ → ℕ → Framed
+judged s from to v = cond (eqb v (total (take (length s - 7) s) % 256)) (typed (part from to s) (to + 1)) Framed.BadSum
+
+abbrev pub outlineIn : List ℕ → Shape → Framed
+outlineIn s Shape.No = Framed.BadFrame
+outlineIn s (Shape.Is from to v) = judged s from to v
+
+-- the frame but for the chain of the fields after 35
+unfoldable pub outlineOf : List ℕ → Framed
+outlineOf s = outlineIn s (partsOf s)
+
+-- the frame: they are a chain up to the trailer, too
+abbrev pub frameIn : List ℕ → Shape → Framed
+frameIn s Shape.No = Framed.BadFrame
+frameIn s (Shape.Is from to v) = cond (isSome (fieldsOf (part (to + 1) (length s - 7) s))) (judged s from to v) Framed.BadFrame

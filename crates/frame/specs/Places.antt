@@ -1,11 +1,11 @@
 -- Fields by their places in the bytes. Assumes nothing.
 use Prim.Native.Nat.{ℕ, _+_, _-_}
-use mathlib.Core.List.{List, []}
+use mathlib.Core.List.{List, [], _∷_, _++_}
 use mathlib.Core.Bool.{Bool, true, false, cond}
 use mathlib.Core.Option.{Option, none, some}
-use lib.Dec.{ltb}
+use lib.Dec.{ltb, eqb}
 use lib.ListN.{length, take, drop}
-use Rattle.frame.specs.Fields.{Field, ahead, before, fieldOf, fieldsOf}
+use Rattle.frame.specs.Fields.{Field, field, ahead, before, fieldOf}
 use Rattle.frame.specs.declared.Step.{Step}
 
 -- the bytes from..to
@@ -30,11 +30,26 @@ abbrev pub isSome : Option (List Field) → Bool
 isSome none = false
 isSome (some fs) = true
 
--- ---- a walk along a chain
-abbrev pub given : Option (List Field) → List Field
-given none = []
-given (some fs) = fs
+-- ---- the fields from a place on
+-- what stands for bytes that are no field: a tag that may stand in no place of a message, without a value
+abbrev pub broken : Field
+broken = field 8 []
+
+-- one field more, unless the bytes up to SOH are none
+abbrev pub onto : Option Field → List Field → List Field
+onto none fs = broken ∷ []
+onto (some f) fs = f ∷ fs
+
+-- nothing is left over
+abbrev pub over : List ℕ → List Field
+over [] = []
+over (b ∷ bs) = broken ∷ []
+
+-- the fields of the bytes up to the first that is none; p has come since the last SOH
+unfoldable pub run : List ℕ → List ℕ → List Field
+run p [] = over p
+run p (b ∷ bs) = cond (eqb b 1) (onto (fieldOf p) (run [] bs)) (run (p ++ (b ∷ [])) bs)
 
 -- the fields that are left from a place on
 abbrev pub left : List ℕ → ℕ → List Field
-left s at = given (fieldsOf (drop at s))
+left s at = run [] (drop at s)

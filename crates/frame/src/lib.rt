@@ -1,12 +1,12 @@
 // The frame of a message (document 01, "Frame"): the chain of fields, tags 8, 9, 35 and 10, the sum, and the type.
 // Nothing is copied: an answer holds places in the lent bytes.
 ghost use mathlib.Core.Path.{_≡_};
-ghost use Prim.Native.Nat.{_%_, min};
-ghost use lib.ListN.{take};
+ghost use Prim.Native.Nat.{_%_, _≤_, _<_, min};
+ghost use lib.ListN.{length, take};
 ghost use Rattle.frame.specs.Fields.{fieldsOf};
 ghost use Rattle.frame.specs.Frames.{equal, total, isType, typed, frameOf};
 ghost use Rattle.frame.specs.Places.{firstOf, fieldAt, isSome};
-ghost use Rattle.frame.specs.ByPlace.{Tells, tagged, preamble, headOf, trailerOf, partsOf};
+ghost use Rattle.frame.specs.ByPlace.{Tells, tagged, preamble, headOf, trailerOf, partsOf, judged, outlineOf};
 use digits::Number;
 
 // A field: its tag, and its value as from..to, where SOH stands at to.
@@ -60,8 +60,8 @@ const BEGIN_BYTES: usize = 10;
 // 10=, three digits and SOH
 const TRAILER_BYTES: usize = 7;
 
-// Where a byte first stands from a place on, or the end.
-fn find(s: &[u8], at: usize, x: u8) -> usize
+// Where a byte first stands from a place on, or the end: one byte a turn.
+fn find_by_one(s: &[u8], at: usize, x: u8) -> usize
     ensures { λ r. ⌜ r ≡ firstOf x (now (s .entry)) at ⌝ }
 {
     let mut i = at;
@@ -72,6 +72,31 @@ fn find(s: &[u8], at: usize, x: u8) -> usize
         i += 1;
     }
     i
+}
+
+// The same, four bytes a turn as long as there are four.
+fn find(s: &[u8], at: usize, x: u8) -> usize
+    requires { ⌜ at ≤ length (now s) ⌝ }
+    ensures { λ r. ⌜ r ≡ firstOf x (now (s .entry)) at ⌝ }
+{
+    let n = s.len();
+    let mut i = at;
+    while 4 <= n - i {
+        if s[i] == x {
+            return i;
+        }
+        if s[i + 1] == x {
+            return i + 1;
+        }
+        if s[i + 2] == x {
+            return i + 2;
+        }
+        if s[i + 3] == x {
+            return i + 3;
+        }
+        i += 4;
+    }
+    find_by_one(s, i, x)
 }
 
 // The tag of the field that starts at a place, and where its '=' stands. The bytes before '=' are read in the loop that
@@ -258,7 +283,7 @@ fn trailer(t: &[u8]) -> Number
     digits::digits(&t[3..6], 3)
 }
 
-// All that is 11 where it is broken.
+// All that is 11 where it is broken, but for the chain of the fields after 35.
 fn parts(s: &[u8]) -> Shape
     ensures { λ r. ⌜ r ≡ partsOf (now (s .entry)) ⌝ }
 {
@@ -281,9 +306,6 @@ fn parts(s: &[u8]) -> Shape
     let end = n - TRAILER_BYTES;
     let next = to + 1;
     if end < next {
-        return Shape::No;
-    }
-    if !chain(&s[next..end]) {
         return Shape::No;
     }
     let Number::Is(sum) = trailer(&s[end..n]) else {
@@ -319,9 +341,21 @@ fn wide(x: u8) -> u64
     x as u64
 }
 
-// The frame of a message: 11 first, then 12, then 13.
-pub fn frame(s: &[u8]) -> Framed
-    ensures { λ r. ⌜ r ≡ frameOf (now (s .entry)) ⌝ }
+// The sum and the type of a message of a shape: 12 first, then 13.
+fn judge(s: &[u8], from: usize, to: usize, given: u64) -> Framed
+    requires { ⌜ (7 ≤ length (now s)) × ((from ≤ to) × (to < length (now s))) ⌝ }
+    ensures { λ r. ⌜ r ≡ judged (now (s .entry)) from to given ⌝ }
+{
+    let end = s.len() - TRAILER_BYTES;
+    if wide(sum(s, end)) != given {
+        return Framed::BadSum;
+    }
+    kind(&s[from..to], to + 1)
+}
+
+// The frame of a message but for the chain of the fields after 35, which whoever walks them sees.
+pub fn outline(s: &[u8]) -> Framed
+    ensures { λ r. ⌜ r ≡ outlineOf (now (s .entry)) ⌝ }
 {
     let Shape::Is {
         from,
@@ -331,9 +365,24 @@ pub fn frame(s: &[u8]) -> Framed
     else {
         return Framed::BadFrame;
     };
-    let end = s.len() - TRAILER_BYTES;
-    if wide(sum(s, end)) != given {
-        return Framed::BadSum;
+    judge(s, from, to, given)
+}
+
+// The frame of a message: 11 first, then 12, then 13.
+pub fn frame(s: &[u8]) -> Framed
+    ensures { λ r. ⌜ r ≡ frameOf (now (s .entry)) ⌝ }
+{
+    let n = s.len();
+    let Shape::Is {
+        from,
+        to,
+        sum: given,
+    } = parts(s)
+    else {
+        return Framed::BadFrame;
+    };
+    if !chain(&s[to + 1..n - TRAILER_BYTES]) {
+        return Framed::BadFrame;
     }
-    kind(&s[from..to], to + 1)
+    judge(s, from, to, given)
 }

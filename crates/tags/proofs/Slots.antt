@@ -84,10 +84,6 @@ module _ (t : ℕ) where
       go false e p i = i ∙ rw (leb-suc low (ahead t us), ltb-suc (ahead t us) high)
 
 -- ---- the named tags
-pub slot-most : (t : ℕ) → slotOf t ≤ 21
-unfolding slotOf
-slot-most t = ahead-le t namedTags
-
 -- two tags of one slot are one tag
 pub slot-same : (t u : ℕ) → slotOf t < 21 → slotOf t ≡ slotOf u → t ≡ u
 unfolding slotOf

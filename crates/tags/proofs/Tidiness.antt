@@ -123,9 +123,6 @@ module _ (stop named low high : ℕ) where
   splitFrom e fs =
       cond (tidy (below named) (between low high) (e ++ upTo stop fs)) (some (record { inside = e ++ upTo stop fs; rest = onward stop fs })) none
 
-  pub split-start : (fs : List Field) → splitAt stop named low high fs ≡ splitFrom [] fs
-  split-start fs = refl
-
   module _ (e : List Field) (t : tidy (below named) (between low high) e ≡ true) where
     pub split-end : splitFrom e [] ≡ some (record { inside = e; rest = [] })
     unfolding upTo onward

@@ -4,16 +4,16 @@ use mathlib.Core.List.{List, [], _∷_, _++_}
 use mathlib.Core.Bool.{Bool, true, false, cond, not, _&&_, _||_, true≢false, false≢true}
 use mathlib.Core.Option.{none, some}
 use Prim.Native.Nat.{ℕ, _+_, _≤_, _<_}
-use native.Mathlib.Omega.{arith}
-use borrow.Author.Tests.{lt-ltb, eqb-true}
+use borrow.Author.Tests.{lt-ltb, eqb-true, eqb-false, not-true}
 use lib.Dec.{ltb, leb, eqb}
 use lib.ListN.{length, getD, set}
+use Rattle.digits.proofs.Width.{both}
 use Rattle.frame.specs.Fields.{Field, field}
-use Rattle.frame.specs.Places.{part, fieldAt, left}
+use Rattle.frame.specs.Places.{part, fieldAt, broken, left}
 use Rattle.frame.specs.declared.Step.{Step}
-use Rattle.frame.proofs.Walk.{On, walk-on, walked, Found, found}
+use Rattle.frame.proofs.Walk.{walked, left-on, left-no, found}
 use Rattle.tags.specs.Tags.{tidy, upTo, onward}
-use Rattle.tags.specs.Slots.{slotOf, below, between, noMarks, strays, Holds, splitAt, Chained, Tells}
+use Rattle.tags.specs.Slots.{slotOf, below, between, noMarks, strays, breaks, Holds, splitAt, Tells}
 use Rattle.tags.specs.declared.Marks.{Marks}
 use Rattle.tags.specs.declared.Place.{Place}
 use Rattle.tags.proofs.Marking.{none-held, held-more}
@@ -28,6 +28,16 @@ unseen k named low high seen h l = go (ltb k low || leb high k) (eqb seen 0) ref
     go false true q h = eqb-true seen 0 q
     go false false q h = absurd (true≢false h)
 
+-- bytes that are no field stray, whatever was seen
+pub broken-strays : (named low high seen : ℕ) → strays 0 named low high 0 ≡ true → strays (slotOf 8) named low high seen ≡ true
+unfolding slotOf
+broken-strays named low high seen = go (ltb 0 named) (ltb 0 low || leb high 0)
+  where
+    go : (a b : Bool) → a && (b || false) ≡ true → a && (b || not (eqb seen 0)) ≡ true
+    go true true h = refl
+    go true false h = absurd (false≢true h)
+    go false b h = absurd (false≢true h)
+
 module _ (s : List ℕ) (start stop named low high : ℕ) where
   abbrev whole : List Field
   whole = left s start
@@ -36,32 +46,47 @@ module _ (s : List ℕ) (start stop named low high : ℕ) where
   pub record Walks (m : Marks) (at : ℕ) : Type 0 where
     pub few : named ≤ 21
     pub top : high ≤ 21
+    pub breaks : breaks stop named low high ≡ true
     pub passed : List Field
-    pub chained : Chained s at
     pub holds : Holds named s m passed
     pub tidy : tidy (below named) (between low high) passed ≡ true
     pub same : splitAt stop named low high whole ≡ splitFrom stop named low high passed (left s at)
 
-  pub walk-start : (m : Marks) → m ≡ noMarks → named ≤ 21 → high ≤ 21 → Chained s start → Walks m start
-  walk-start m q n g h = record { few = n; top = g; passed = []; chained = h; holds = rw q (none-held named s n); tidy = tidy-nil (below named) (between low high); same = refl }
+  pub walk-start : (m : Marks) → m ≡ noMarks → named ≤ 21 → high ≤ 21 → breaks stop named low high ≡ true → Walks m start
+  walk-start m q n g b =
+      let h : Holds named s m [] = rw q (none-held named s n) in
+      record { few = n; top = g; breaks = b; passed = []; holds = h; tidy = tidy-nil (below named) (between low high); same = refl }
 
   module _ (m : Marks) (at : ℕ) (w : Walks m at) where
     pub tells-end : length s ≤ at → Tells named s (record { ok = true; at = at; marks = m }) (splitAt stop named low high whole)
     tells-end l =
         rw (w .same, walked s at l, split-end stop named low high (w .passed) (w .tidy))
-        (record { ok = refl; holds = w .holds; rest = walked s at l; chained = w .chained })
+        (record { ok = refl; holds = w .holds; rest = walked s at l })
+
+    -- a field that strays
+    strayed : (f : Field) (fs : List Field) → left s at ≡ f ∷ fs → (f .tag ≡ stop → ⊥) → fits (below named) (between low high) (w .passed) f ≡ false
+        → Tells named s (record { ok = false; at = at; marks = m }) (splitAt stop named low high whole)
+    strayed f fs q other h = rw (w .same, q, split-stray stop named low high (w .passed) (w .tidy) f fs other h) refl
+
+    pub tells-broken : at < length s → fieldAt s at ≡ Step.No
+        → Tells named s (record { ok = false; at = at; marks = m }) (splitAt stop named low high whole)
+    tells-broken l e =
+        let b = both (not (eqb 8 stop)) (strays 0 named low high 0) (w .breaks) in
+        let h = broken-strays named low high (getD (m .to) (slotOf 8) 0) (b .1) in
+        strayed broken [] (left-no s at l e) (eqb-false 8 stop (not-true (eqb 8 stop) (b .0)))
+        (fits-test s m (w .passed) named low high (w .holds) (w .few) (w .top) broken ∙ ap not h)
 
     module _ (tag from to : ℕ) (l : at < length s) (step : fieldAt s at ≡ Step.Is tag from to) where
       abbrev f : Field
       f = field tag (part from to s)
 
-      on : On s at tag from to
-      on = walk-on s at (w .chained) l step
+      on : left s at ≡ f ∷ left s (to + 1)
+      on = left-on s at l step
 
       pub tells-stop : tag ≡ stop → Tells named s (record { ok = true; at = at; marks = m }) (splitAt stop named low high whole)
       tells-stop q =
-          rw (w .same, on .cons, split-stop stop named low high (w .passed) (w .tidy) f (left s (to + 1)) q)
-          (record { ok = refl; holds = w .holds; rest = on .cons; chained = w .chained })
+          rw (w .same, on, split-stop stop named low high (w .passed) (w .tidy) f (left s (to + 1)) q)
+          (record { ok = refl; holds = w .holds; rest = on })
 
       module _ (other : tag ≡ stop → ⊥) (k : ℕ) (slot : k ≡ slotOf tag) where
         fit : fits (below named) (between low high) (w .passed) f ≡ not (strays k named low high (getD (m .to) k 0))
@@ -69,8 +94,7 @@ module _ (s : List ℕ) (start stop named low high : ℕ) where
 
         pub tells-stray : strays k named low high (getD (m .to) k 0) ≡ true
             → Tells named s (record { ok = false; at = at; marks = m }) (splitAt stop named low high whole)
-        tells-stray h =
-            rw (w .same, on .cons, split-stray stop named low high (w .passed) (w .tidy) f (left s (to + 1)) other (fit ∙ ap not h)) refl
+        tells-stray h = strayed f (left s (to + 1)) on other (fit ∙ ap not h)
 
         pub walk-more : strays k named low high (getD (m .to) k 0) ≡ false → k ≤ 21
             → Walks (record { from = set (m .from) k from; to = set (m .to) k to }) (to + 1)
@@ -79,11 +103,11 @@ module _ (s : List ℕ) (start stop named low high : ℕ) where
             record {
               few = w .few;
               top = w .top;
+              breaks = w .breaks;
               passed = w .passed ++ (f ∷ []);
-              chained = on .good;
               holds = held-more named s m (w .passed) (w .few) (w .holds) tag k from to slot b (unseen k named low high (getD (m .to) k 0) h) (p .some) (p .high);
               tidy = tidy-more (below named) (between low high) (w .passed) f (w .tidy) (fit ∙ ap not h);
-              same = w .same ∙ ap (splitFrom stop named low high (w .passed)) (on .cons) ∙ split-more stop named low high (w .passed) (w .tidy) f (left s (to + 1)) other;
+              same = w .same ∙ ap (splitFrom stop named low high (w .passed)) on ∙ split-more stop named low high (w .passed) (w .tidy) f (left s (to + 1)) other;
             }
 
 -- ---- what a walk's answer says of the place
@@ -92,7 +116,6 @@ pub record Passed (s : List ℕ) (stop named low high : ℕ) (fs : List Field) (
   pub tidy : tidy (below named) (between low high) (upTo stop fs) ≡ true
   pub holds : Holds named s (r .marks) (upTo stop fs)
   pub rest : left s (r .at) ≡ onward stop fs
-  pub chained : Chained s (r .at)
 
 module _ (s : List ℕ) (stop named low high : ℕ) (fs : List Field) (r : Place) where
   pub was-untidy : Tells named s r (splitAt stop named low high fs) → r .ok ≡ false → tidy (below named) (between low high) (upTo stop fs) ≡ false
@@ -107,5 +130,5 @@ module _ (s : List ℕ) (stop named low high : ℕ) (fs : List Field) (r : Place
     where
       go : (z : Bool) → tidy (below named) (between low high) (upTo stop fs) ≡ z
           → Tells named s r (cond z (some (record { inside = upTo stop fs; rest = onward stop fs })) none) → Passed s stop named low high fs r
-      go true e w = record { tidy = e; holds = w .holds; rest = w .rest; chained = w .chained }
+      go true e w = record { tidy = e; holds = w .holds; rest = w .rest }
       go false e w = absurd (false≢true (sym w ∙ q))

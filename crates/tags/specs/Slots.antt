@@ -6,8 +6,8 @@ use mathlib.Core.Bool.{Bool, true, false, cond, not, _&&_, _||_}
 use mathlib.Core.Option.{Option, none, some}
 use lib.Dec.{leb, ltb, eqb}
 use lib.ListN.{length, getD, take, drop, replicate}
-use Rattle.frame.specs.Fields.{Field, ahead, fieldsOf}
-use Rattle.frame.specs.Places.{part, isSome, left}
+use Rattle.frame.specs.Fields.{Field, ahead}
+use Rattle.frame.specs.Places.{part, left}
 use Rattle.tags.specs.Tags.{namedTags, tidy, stands, upTo, onward, lookup}
 use Rattle.tags.specs.declared.Marks.{Marks}
 use Rattle.tags.specs.declared.Place.{Place}
@@ -46,6 +46,10 @@ pub record Holds (named : ℕ) (s : List ℕ) (m : Marks) (fs : List Field) : Ty
 abbrev pub strays : ℕ → ℕ → ℕ → ℕ → ℕ → Bool
 strays k named low high seen = ltb k named && ((ltb k low || leb high k) || not (eqb seen 0))
 
+-- Bytes that are no field breach them: 8, which stands for such bytes, has slot 0, and the place does not end at it.
+abbrev pub breaks : ℕ → ℕ → ℕ → ℕ → Bool
+breaks stop named low high = not (eqb 8 stop) && strays 0 named low high 0
+
 -- A place and what follows it.
 pub record Split : Type 0 where
   pub inside : List Field
@@ -56,16 +60,11 @@ abbrev pub splitAt : ℕ → ℕ → ℕ → ℕ → List Field → Option Split
 splitAt stop named low high fs =
     cond (tidy (below named) (between low high) (upTo stop fs)) (some (record { inside = upTo stop fs; rest = onward stop fs })) none
 
--- From a place on the bytes are a chain of fields.
-abbrev pub Chained : List ℕ → ℕ → Type 0
-Chained s at = isSome (fieldsOf (drop at s)) ≡ true
-
 -- What follows a place that was walked.
 pub record Walked (named : ℕ) (s : List ℕ) (r : Place) (p : Split) : Type 0 where
   pub ok : r .ok ≡ true
   pub holds : Holds named s (r .marks) (p .inside)
   pub rest : left s (r .at) ≡ p .rest
-  pub chained : Chained s (r .at)
 
 -- What a walk tells.
 abbrev pub Tells : ℕ → List ℕ → Place → Option Split → Type 0

@@ -1,11 +1,12 @@
 // Where tags stand in a message (document 01, "Fields"). A place of the message is a run of fields: those before 268, or
 // those of an entry. Of the tags that are named only some may stand in it, and none twice. What stands in it is marked
 // by the slot of its tag, as a part of the lent bytes, and nothing is read until it is needed.
+ghost use mathlib.Core.Bool.{true};
 ghost use mathlib.Core.Path.{_≡_};
 ghost use Prim.Native.Nat.{_≤_, _<_};
 ghost use lib.ListN.{getD};
 ghost use Rattle.frame.specs.Places.{left};
-ghost use Rattle.tags.specs.Slots.{slotOf, noMarks, textAt, strays, splitAt, Chained, Tells};
+ghost use Rattle.tags.specs.Slots.{slotOf, noMarks, textAt, strays, breaks, splitAt, Tells};
 use frame::Step;
 
 // The slots, in an order in which what may stand in a place is one run of them. First 8, 9, 35 and 10, which may stand
@@ -128,9 +129,9 @@ pub fn value(s: &[u8], m: Marks, k: usize) -> &[u8]
 }
 
 // Walks a place from `start` up to the first field with the tag `stop`, or to the end. Of the first `named` slots only
-// those from low up to high may stand in it.
+// those from low up to high may stand in it. Bytes that are no field breach its rules.
 pub fn walk(s: &[u8], start: usize, stop: u64, named: usize, low: usize, high: usize) -> Place
-    requires { ⌜ Chained (now s) start × ((named ≤ 21) × (high ≤ 21)) ⌝ }
+    requires { ⌜ (named ≤ 21) × ((high ≤ 21) × (breaks stop named low high ≡ true)) ⌝ }
     ensures { λ r. ⌜ Tells named (now (s .entry)) r (splitAt stop named low high (left (now (s .entry)) start)) ⌝ }
 {
     let end = s.len();

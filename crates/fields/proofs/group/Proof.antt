@@ -3,11 +3,11 @@ use mathlib.Core.Path.{_≡_, sym, ap, _∙_}
 use native.Mathlib.Omega.{arith}
 use borrow.Author.Needs.{needs}
 use Rattle.digits.proofs.Ranges.{ranged-in}
-use Rattle.frame.proofs.Walk.{found, never-no, walk-on}
+use Rattle.frame.proofs.Walk.{found}
 use Rattle.fields.specs.Groups.{answered}
 use Rattle.fields.proofs.Leading.{leads-as}
 use Rattle.fields.proofs.Positions.{none-answered}
-use Rattle.fields.proofs.Bodies.{no-group, bad-count, good-count}
+use Rattle.fields.proofs.Bodies.{no-group, torn-count, bad-count, good-count}
 use Rattle.fields.proofs.group.Statement.{statement}
 use Rattle.fields.proofs.group.Tie as tie
 
@@ -31,7 +31,7 @@ alone-requires-2 c κs = search needs
 
 returns-2 : tie.Need-returns-2
 returns-2 c =
-    absurd (never-no _ _ (c .before .before .before .before .before .before .pre .0) (c .before .before .before .before .if1 .left) (sym (c .before .before .before .field .ensures) ∙ c .before .enum-told .given .1))
+    leads-as (c .alone2 .ensures) _ (λ depth. none-answered _ ∙ ap (answered _) (sym (torn-count _ _ depth _ (c .before .before .before .before .if1 .left) (sym (c .before .before .before .field .ensures) ∙ c .before .enum-told .given .1))))
 
 sub-ranged : tie.Need-sub-ranged
 sub-ranged c = let f = found _ _ (sym (c .before .before .before .field .ensures) ∙ c .before .from .given .1) in omega (arith, f .some, f .high)
@@ -57,7 +57,7 @@ alone-requires-3 c κs = search needs
 returns-3 : tie.Need-returns-3
 returns-3 c =
     leads-as (c .alone3 .ensures) _ (λ depth. none-answered _
-    ∙ ap (answered _) (sym (bad-count _ _ depth _ _ _ _ (c .before .before .before .before .before .before .before .before .before .before .before .pre .0) (c .before .before .before .before .before .before .before .before .before .if1 .left) (sym (c .before .before .before .before .before .before .before .before .field .ensures) ∙ c .before .before .before .before .before .before .from .given .1) (sym (c .before .before .before .ranged .ensures) ∙ c .before .enum-told2 .given .1))))
+    ∙ ap (answered _) (sym (bad-count _ _ depth _ _ _ _ (c .before .before .before .before .before .before .before .before .before .if1 .left) (sym (c .before .before .before .before .before .before .before .before .field .ensures) ∙ c .before .before .before .before .before .before .from .given .1) (sym (c .before .before .before .ranged .ensures) ∙ c .before .enum-told2 .given .1))))
 
 add-at : tie.Need-add-at
 add-at c =
@@ -70,10 +70,9 @@ returns-4 c =
     let inner = c .before .before .before .before .before .before .before .before .before .if1 .left in
     let said = sym (c .before .before .before .ranged .ensures) ∙ c .before .count .given .1 in
     record {
-      chained = walk-on _ _ (top .pre .0) inner step .good;
-      fair = top .pre .1;
+      fair = top .pre;
       few = ranged-in 2 0 64 _ said .high;
-      says = λ depth. ap (answered _) (sym (good-count _ _ depth _ _ _ _ (top .pre .0) inner step _ said));
+      says = λ depth. ap (answered _) (sym (good-count _ _ depth _ _ _ _ inner step _ said));
     }
 
 pub group-spec : {M : Type 1} → statement M

@@ -7,13 +7,13 @@ use borrow.Author.Tests.{not-true, not-false}
 use borrow.Author.Needs.{needs}
 use lib.ListN.{length}
 use Rattle.frame.specs.Places.{left}
-use Rattle.frame.proofs.Walk.{found, never-no}
+use Rattle.frame.proofs.Walk.{found}
 use Rattle.tags.specs.Tags.{upTo}
 use Rattle.tags.specs.declared.Marks.{Marks}
 use Rattle.entries.proofs.Answers.{said-bad, said-passed, said-is}
 use Rattle.cells.specs.Runs.{updatesIn}
 use Rattle.fields.specs.Groups.{grouped}
-use Rattle.fields.proofs.Listing.{group-reads, none-reads, Ended, at-trailer, at-refusal, cases, Lists, Enters, lists-start, all-there, some-missing, early, lists-skip, no-more, lists-enter, strayed, enters-more, stops-first, stops-end, ended-bad, ended-passed, ended-said}
+use Rattle.fields.proofs.Listing.{group-reads, none-reads, Ended, at-trailer, at-refusal, cases, Lists, Enters, lists-start, all-there, some-missing, torn, early, lists-skip, no-more, lists-enter, torn-in, strayed, enters-more, stops-first, stops-end, ended-bad, ended-passed, ended-said}
 use Rattle.fields.proofs.listed.Statement.{statement}
 use Rattle.fields.proofs.listed.Tie as tie
 
@@ -45,13 +45,13 @@ ended c =
     cases (c .if1 .came)
     (λ x. at-trailer _ _ _ _ (x .2) (λ z. all-there _ _ _ _ _ _ _ _ _ _ _ w (x .0 .taken) z) (λ z. some-missing _ _ _ _ _ _ _ _ _ _ _ w (x .0 .taken) z))
     (λ y. cases y
-    (λ x. at-refusal _ _ _ (x .5 ∙ w .bad) (absurd (never-no _ _ (w .chained) (x .0 .left) (sym (x .1 .ensures) ∙ x .3 .given .1))))
+    (λ x. at-refusal _ _ _ (x .5 ∙ w .bad) (torn _ _ _ _ _ _ _ _ _ _ _ w (x .0 .left) (sym (x .1 .ensures) ∙ x .3 .given .1)))
     (λ y. cases y
     (λ x. at-refusal _ _ _ (x .9 ∙ w .bad) (early _ _ _ _ _ _ _ _ _ _ _ w _ _ _ (x .0 .left) (sym (x .1 .ensures) ∙ x .3 .given .1) (x .6 .taken) _ (x .5 .ensures .0) (x .7 .taken)))
     (λ y. cases y
     (λ x. at-refusal _ _ _ (x .9 ∙ w .bad) (no-more _ _ _ _ _ _ _ _ _ _ _ w _ _ _ (x .0 .left) (sym (x .1 .ensures) ∙ x .3 .given .1) (x .6 .left) (x .7 .taken)))
     (λ y. cases y
-    (λ x. at-refusal _ _ _ (x .15 ∙ w .bad) (absurd (never-no _ _ (x .9 .inv .chained) (x .10 .taken) (sym (x .11 .ensures) ∙ x .13 .given .1))))
+    (λ x. at-refusal _ _ _ (x .15 ∙ w .bad) (torn-in _ _ _ _ _ _ _ _ _ _ _ _ _ (x .9 .inv) (x .10 .taken) (sym (x .11 .ensures) ∙ x .13 .given .1)))
     (λ y. cases y
     (λ x. at-refusal _ _ _ (x .21 ∙ w .bad) (strayed _ _ _ _ _ _ _ _ _ _ _ _ _ (x .9 .inv) _ _ _ (x .10 .taken) (sym (x .11 .ensures) ∙ x .13 .given .1) (x .15 .left) _ (x .16 .ensures .0) (sym (x .18 .ensures) ∙ x .19 .taken)))
     (λ x. at-refusal _ _ _ (x .15 ∙ w .bad) (ended-bad _ _ _ _ _ _ _ _ _ _ _ _ _ (x .9 .inv)
@@ -61,7 +61,7 @@ ended c =
     (said-bad _ (sym (x .11 .ensures) ∙ x .13 .given .1)))))))))
 
 entries-holds : tie.Need-entries-holds Inv-loop μ-loop Inv-entries μ-entries
-entries-holds c = let p = c .before .before .pre in (lists-start _ _ _ _ _ _ (p .2) (p .0) (p .1 .0) (p .1 .1), refl)
+entries-holds c = let p = c .before .before .pre in (lists-start _ _ _ _ _ _ (p .1 .1) (p .0) (p .1 .0), refl)
 
 field-requires : tie.Need-field-requires Inv-loop μ-loop Inv-entries μ-entries
 field-requires c κs = search needs

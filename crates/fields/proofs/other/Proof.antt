@@ -1,17 +1,18 @@
 -- `fields::other` meets its contract: what stands before 268, then that nothing named follows. Assumes nothing.
-use mathlib.Core.Path.{_≡_, sym, ap, _∙_}
+use mathlib.Core.Path.{_≡_, refl, sym, _∙_}
 use native.Mathlib.Omega.{arith}
 use borrow.Author.Tests.{not-true, not-false}
 use borrow.Author.Needs.{needs}
-use Rattle.tags.proofs.Walking.{Passed, was-untidy, was-tidy}
+use Rattle.frame.proofs.Walk.{left-tagged}
+use Rattle.tags.proofs.Walking.{was-untidy, was-tidy}
 use Rattle.fields.proofs.Leading.{leads-as}
 use Rattle.fields.proofs.Positions.{no-top, a-top}
-use Rattle.fields.proofs.Bodies.{refused-by, chain-fair, o-untidy, o-untidy-rest, o-no-top, is-top-x, top-x-same, o-is}
+use Rattle.fields.proofs.Bodies.{refused-by, o-untidy, o-untidy-rest, o-no-top, is-top-x, top-x-same, o-is}
 use Rattle.fields.proofs.other.Statement.{statement}
 use Rattle.fields.proofs.other.Tie as tie
 
 walk-requires : tie.Need-walk-requires
-walk-requires c κs = (c .before .pre, (omega arith, omega arith))
+walk-requires c κs = (omega arith, (omega arith, refl))
 
 alone-requires : tie.Need-alone-requires
 alone-requires c κs = search needs
@@ -21,8 +22,7 @@ returns c =
     leads-as (c .alone .ensures) _ (λ depth. refused-by _ (o-untidy _ (was-untidy _ 268 6 4 6 _ _ (c .before .before .before .walk .ensures) (not-true _ (c .before .if1 .taken)))))
 
 walk-requires-2 : tie.Need-walk-requires-2
-walk-requires-2 c κs =
-    (was-tidy _ 268 6 4 6 _ _ (c .before .before .walk .ensures) (not-false _ (c .if1 .left)) .chained, (omega arith, omega arith))
+walk-requires-2 c κs = (omega arith, (omega arith, refl))
 
 alone-requires-2 : tie.Need-alone-requires-2
 alone-requires-2 c κs = search needs
@@ -30,7 +30,7 @@ alone-requires-2 c κs = search needs
 returns-2 : tie.Need-returns-2
 returns-2 c =
     let p = was-tidy _ 268 6 4 6 _ _ (c .before .before .before .before .before .before .walk .ensures) (not-false _ (c .before .before .before .before .if1 .left)) in
-    leads-as (c .alone2 .ensures) _ (λ depth. refused-by _ (o-untidy-rest _ (chain-fair _ (c .before .before .before .before .before .before .before .before .pre)) (rw (p .rest) at (was-untidy _ 0 6 0 0 _ _ (c .before .before .before .walk2 .ensures) (not-true _ (c .before .if2 .taken))))))
+    leads-as (c .alone2 .ensures) _ (λ depth. refused-by _ (o-untidy-rest _ (left-tagged _ 0) (rw (p .rest) at (was-untidy _ 0 6 0 0 _ _ (c .before .before .before .walk2 .ensures) (not-true _ (c .before .if2 .taken))))))
 
 top-x-requires : tie.Need-top-x-requires
 top-x-requires c κs = search needs
@@ -57,7 +57,7 @@ returns-4 c =
     let p = was-tidy _ 268 6 4 6 _ _ (c .before .before .before .before .before .before .before .before .before .before .before .walk .ensures) (not-false _ (c .before .before .before .before .before .before .before .before .before .if1 .left)) in
     let q = was-tidy _ 0 6 0 0 _ _ (c .before .before .before .before .before .before .before .before .walk2 .ensures) (not-false _ (c .before .before .before .before .before .before .if2 .left)) in
     let t = is-top-x _ (sym (top-x-same 6 _ _ _ (omega arith) (p .holds)) ∙ a-top _ (sym (c .before .before .before .before .top-x .ensures) ∙ c .before .before .t .given .1)) in
-    leads-as (c .alone4 .ensures) _ (λ depth. o-is _ (chain-fair _ (c .before .before .before .before .before .before .before .before .before .before .before .before .before .pre)) (p .tidy) (rw (p .rest) at (q .tidy)) _ t)
+    leads-as (c .alone4 .ensures) _ (λ depth. o-is _ (left-tagged _ 0) (p .tidy) (rw (p .rest) at (q .tidy)) _ t)
 
 pub other-spec : {M : Type 1} → statement M
 other-spec =

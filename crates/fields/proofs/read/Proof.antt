@@ -1,32 +1,88 @@
--- `fields::read` meets its contract: what leads to the entries, then the entries. Assumes nothing.
+-- `fields::read` meets its contract: the outline, then the body, and where either is refused the frame. Assumes nothing.
+use mathlib.Core.Path.{refl, sym, ap, _∙_}
 use native.Mathlib.Omega.{arith}
 use borrow.Author.Needs.{needs}
-use Rattle.fields.proofs.Leading.{reads-as}
+use Rattle.frame.proofs.Messages.{outline}
+use Rattle.fields.proofs.Whole.{wasRead, unread, no-frame, no-outline, body-refused, body-read}
 use Rattle.fields.proofs.read.Statement.{statement}
 use Rattle.fields.proofs.read.Tie as tie
 
-lead-of-requires : tie.Need-lead-of-requires
-lead-of-requires c κs = search needs
+outline-requires : tie.Need-outline-requires
+outline-requires c κs = search needs
 
-sub-listed : tie.Need-sub-listed
-sub-listed c = omega (arith, c .before .before .lead-of .ensures .start)
+enum-known-kind : tie.Need-enum-known-kind
+enum-known-kind c = search needs
 
-part-listed-start : tie.Need-part-listed-start
-part-listed-start c = c .before .before .lead-of .ensures .start
-
-part-listed-end : tie.Need-part-listed-end
-part-listed-end c = c .before .before .lead-of .ensures .inside
-
-listed-requires : tie.Need-listed-requires
-listed-requires c κs = let l = c .before .before .before .before .lead-of .ensures .leads in (l .chained, (l .fair, l .few), c .before .before .before .before .before .before .before .pre)
-
-same-length : tie.Need-same-length
-same-length c = c .before .before .listed .ensures .size
+refusal-requires : tie.Need-refusal-requires
+refusal-requires c κs = search needs
 
 returns : tie.Need-returns
-returns c = reads-as (c .before .before .listed .ensures) (c .before .before .before .before .before .before .before .lead-of .ensures .leads .says _)
+returns c = no-outline _ _ (c .refusal .ensures) (λ kind from e. no-frame _ (c .before .match .keys2) kind from (c .before .before .outline .ensures ∙ e)) refl
+
+sub-end : tie.Need-sub-end
+sub-end c = let o = outline _ (sym (c .before .before .before .outline .ensures) ∙ c .before .kind .given .1) in omega (arith, o .long)
+
+sub-body : tie.Need-sub-body
+sub-body c = let o = outline _ (sym (c .before .before .before .outline .ensures) ∙ c .before .kind .given .1) in omega (arith, o .inside)
+
+part-body-start : tie.Need-part-body-start
+part-body-start c = let o = outline _ (sym (c .before .before .before .outline .ensures) ∙ c .before .kind .given .1) in omega (arith, o .inside)
+
+part-body-end : tie.Need-part-body-end
+part-body-end c = search needs
+
+body-requires : tie.Need-body-requires
+body-requires c κs = search needs
+
+enum-told : tie.Need-enum-told
+enum-told c = search needs
+
+enum-told-2 : tie.Need-enum-told-2
+enum-told-2 c = search needs
+
+refusal-requires-2 : tie.Need-refusal-requires-2
+refusal-requires-2 c κs = search needs
+
+same-length : tie.Need-same-length
+same-length c = search needs
+
+returns-2 : tie.Need-returns-2
+returns-2 c =
+    body-read _ _ (sym (c .before .before .before .before .before .before .before .before .before .before .outline .ensures) ∙ c .before .before .before .before .before .before .before .before .kind .given .1) (c .before .before .before .before .body .ensures) (ap wasRead (c .enum-told .given .1))
+
+same-length-2 : tie.Need-same-length-2
+same-length-2 c = search needs
+
+returns-3 : tie.Need-returns-3
+returns-3 c =
+    body-read _ _ (sym (c .before .before .before .before .before .before .before .before .before .before .outline .ensures) ∙ c .before .before .before .before .before .before .before .before .kind .given .1) (c .before .before .before .before .body .ensures) (ap wasRead (c .enum-told2 .given .1))
+
+same-length-3 : tie.Need-same-length-3
+same-length-3 c = search needs
+
+returns-4 : tie.Need-returns-4
+returns-4 c =
+    body-refused _ _ (c .refusal2 .ensures) (sym (c .before .before .before .before .before .before .before .before .before .before .outline .ensures) ∙ c .before .before .before .before .before .before .before .before .kind .given .1) (c .before .before .before .before .body .ensures) (unread (c .before .before .before .before .body .result .verdict) (c .before .match2 .keys3))
 
 pub read-spec : {M : Type 1} → statement M
 read-spec =
     tie.close
-    (tie.spec lead-of-requires sub-listed part-listed-start part-listed-end listed-requires same-length returns)
+    (tie.spec
+    outline-requires
+    enum-known-kind
+    refusal-requires
+    returns
+    sub-end
+    sub-body
+    part-body-start
+    part-body-end
+    body-requires
+    enum-told
+    enum-told-2
+    refusal-requires-2
+    same-length
+    returns-2
+    same-length-2
+    returns-3
+    same-length-3
+    returns-4)

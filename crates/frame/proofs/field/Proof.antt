@@ -23,7 +23,8 @@ add-from : tie.Need-add-from
 add-from c = let h = told-is _ _ _ (c .before .before .before .tag-at .ensures) (c .before .tag .given .1) in omega (arith, h .1 .0)
 
 find-requires : tie.Need-find-requires
-find-requires c κs = search needs
+find-requires c κs =
+    let h = told-is _ _ _ (c .before .before .before .tag-at .ensures) (c .before .tag .given .1) in omega (arith, h .1 .0)
 
 returns-2 : tie.Need-returns-2
 returns-2 c =

@@ -1,7 +1,8 @@
 -- `frame::frame` meets its contract: the frame by its places is the frame by its fields. Assumes nothing.
 use mathlib.Core.Path.{sym, _∙_}
 use native.Mathlib.Omega.{arith}
-use Rattle.frame.proofs.Framing.{no-frame, other-sum, right-sum, type-placed}
+use borrow.Author.Tests.{not-true, not-false}
+use Rattle.frame.proofs.Framing.{no-frame, no-chain, a-chain, type-placed}
 use borrow.Author.Needs.{needs}
 use Rattle.frame.proofs.frame.Statement.{statement}
 use Rattle.frame.proofs.frame.Tie as tie
@@ -18,54 +19,41 @@ enum-told c = search needs
 returns : tie.Need-returns
 returns c = sym (no-frame _ (sym (c .before .before .parts .ensures) ∙ c .enum-told .given .1))
 
-sub-end : tie.Need-sub-end
-sub-end c = let x = type-placed _ (sym (c .before .before .before .parts .ensures) ∙ c .before .from .given .1) in omega (arith, x .long)
+add-chain : tie.Need-add-chain
+add-chain c = let x = type-placed _ (sym (c .before .before .before .parts .ensures) ∙ c .before .from .given .1) in omega (arith, x .high)
 
-sum-requires : tie.Need-sum-requires
-sum-requires c κs = search needs
+sub-chain : tie.Need-sub-chain
+sub-chain c = let x = type-placed _ (sym (c .before .before .before .parts .ensures) ∙ c .before .from .given .1) in omega (arith, x .long)
 
-wide-requires : tie.Need-wide-requires
-wide-requires c κs = search needs
+sub-chain-2 : tie.Need-sub-chain-2
+sub-chain-2 c = let x = type-placed _ (sym (c .before .before .before .parts .ensures) ∙ c .before .from .given .1) in omega (arith, x .order)
+
+part-chain-start : tie.Need-part-chain-start
+part-chain-start c = let x = type-placed _ (sym (c .before .before .before .parts .ensures) ∙ c .before .from .given .1) in omega (arith, x .order)
+
+part-chain-end : tie.Need-part-chain-end
+part-chain-end c = search needs
+
+chain-requires : tie.Need-chain-requires
+chain-requires c κs = search needs
 
 returns-2 : tie.Need-returns-2
 returns-2 c =
     let d = c .before .before .before .before in
-    let e = sym (d .before .before .parts .ensures) ∙ d .from .given .1 in
-    sym (other-sum _ e _ (c .before .wide .ensures ∙ c .before .before .sum .ensures) (c .if1 .taken))
+    sym (no-chain _ (sym (d .before .before .parts .ensures) ∙ d .from .given .1) (sym (c .before .chain .ensures) ∙ not-true (c .before .chain .result) (c .if1 .taken)))
 
-sub-kind : tie.Need-sub-kind
-sub-kind c =
+judge-requires : tie.Need-judge-requires
+judge-requires c κs =
     let d = c .before .before .before .before in
     let x = type-placed _ (sym (d .before .before .parts .ensures) ∙ d .from .given .1) in
-    omega (arith, x .some, x .high)
-
-part-kind-start : tie.Need-part-kind-start
-part-kind-start c =
-    let d = c .before .before .before .before in
-    let x = type-placed _ (sym (d .before .before .parts .ensures) ∙ d .from .given .1) in
-    omega (arith, x .some, x .high)
-
-part-kind-end : tie.Need-part-kind-end
-part-kind-end c =
-    let d = c .before .before .before .before in
-    let x = type-placed _ (sym (d .before .before .parts .ensures) ∙ d .from .given .1) in
-    omega (arith, x .some, x .high)
-
-add-kind : tie.Need-add-kind
-add-kind c =
-    let d = c .before .before .before .before .before in
-    let x = type-placed _ (sym (d .before .before .parts .ensures) ∙ d .from .given .1) in
-    omega (arith, x .high)
-
-kind-requires : tie.Need-kind-requires
-kind-requires c κs = search needs
+    (x .long, (omega (arith, x .some), x .high))
 
 returns-3 : tie.Need-returns-3
 returns-3 c =
-    let f = c .before .before in
-    let d = f .before .before .before .before in
-    let e = sym (d .before .before .parts .ensures) ∙ d .from .given .1 in
-    c .kind .ensures ∙ sym (right-sum _ e _ (f .before .wide .ensures ∙ f .before .before .sum .ensures) (f .if1 .left))
+    let e = c .before in
+    let d = e .before .before .before .before in
+    c .judge .ensures
+    ∙ sym (a-chain _ (sym (d .before .before .parts .ensures) ∙ d .from .given .1) (sym (e .before .chain .ensures) ∙ not-false (e .before .chain .result) (e .if1 .left)))
 
 pub frame-spec : {M : Type 1} → statement M
 frame-spec =
@@ -75,13 +63,12 @@ frame-spec =
     enum-known-from
     enum-told
     returns
-    sub-end
-    sum-requires
-    wide-requires
+    add-chain
+    sub-chain
+    sub-chain-2
+    part-chain-start
+    part-chain-end
+    chain-requires
     returns-2
-    sub-kind
-    part-kind-start
-    part-kind-end
-    add-kind
-    kind-requires
+    judge-requires
     returns-3)

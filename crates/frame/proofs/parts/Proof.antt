@@ -1,7 +1,7 @@
 -- `frame::parts` meets its contract: each return rewrites with what was found so far. Assumes nothing.
 use mathlib.Core.Path.{sym, _∙_}
 use native.Mathlib.Omega.{arith}
-use borrow.Author.Tests.{le-leb, lt-leb, eq-eqb, ne-eqb, not-true, not-false}
+use borrow.Author.Tests.{le-leb, lt-leb, eq-eqb, ne-eqb}
 use Rattle.frame.specs.ByPlace.{partsOf}
 use Rattle.frame.proofs.Opened.{opened-inside}
 use borrow.Author.Needs.{needs}
@@ -54,27 +54,6 @@ returns-4 c = rw (
   lt-leb _ _ (c .if3 .taken),
 )
 
-part-chain-start : tie.Need-part-chain-start
-part-chain-start c = search needs
-
-part-chain-end : tie.Need-part-chain-end
-part-chain-end c = search needs
-
-chain-requires : tie.Need-chain-requires
-chain-requires c κs = search needs
-
-returns-5 : tie.Need-returns-5
-unfolding partsOf
-returns-5 c =
-    let d = c .before .before .before in
-    rw (
-      le-leb _ _ (d .before .before .before .before .before .before .if1 .left),
-      sym (d .before .before .before .before .before .head .ensures) ∙ d .before .before .before .count .given .1,
-      eq-eqb _ _ (d .before .if2 .left),
-      le-leb _ _ (d .if3 .left),
-      sym (c .before .chain .ensures) ∙ not-true (c .before .chain .result) (c .if4 .taken),
-    )
-
 sub-trailer : tie.Need-sub-trailer
 sub-trailer c = search needs
 
@@ -93,31 +72,27 @@ enum-known-sum c = search needs
 enum-told-2 : tie.Need-enum-told-2
 enum-told-2 c = search needs
 
-returns-6 : tie.Need-returns-6
+returns-5 : tie.Need-returns-5
 unfolding partsOf
-returns-6 c =
-    let e = c .before .before .before .before in
-    let d = e .before .before .before in
+returns-5 c =
+    let d = c .before .before .before .before in
     rw (
       le-leb _ _ (d .before .before .before .before .before .before .if1 .left),
       sym (d .before .before .before .before .before .head .ensures) ∙ d .before .before .before .count .given .1,
       eq-eqb _ _ (d .before .if2 .left),
       le-leb _ _ (d .if3 .left),
-      sym (e .before .chain .ensures) ∙ not-false (e .before .chain .result) (e .if4 .left),
       sym (c .before .before .trailer .ensures) ∙ c .enum-told2 .given .1,
     )
 
-returns-7 : tie.Need-returns-7
+returns-6 : tie.Need-returns-6
 unfolding partsOf
-returns-7 c =
-    let e = c .before .before .before .before .before in
-    let d = e .before .before .before in
+returns-6 c =
+    let d = c .before .before .before .before .before in
     rw (
       le-leb _ _ (d .before .before .before .before .before .before .if1 .left),
       sym (d .before .before .before .before .before .head .ensures) ∙ d .before .before .before .count .given .1,
       eq-eqb _ _ (d .before .if2 .left),
       le-leb _ _ (d .if3 .left),
-      sym (e .before .chain .ensures) ∙ not-false (e .before .chain .result) (e .if4 .left),
       sym (c .before .before .before .trailer .ensures) ∙ c .before .sum .given .1,
     )
 
@@ -136,15 +111,11 @@ parts-spec =
     sub-end
     add-next
     returns-4
-    part-chain-start
-    part-chain-end
-    chain-requires
-    returns-5
     sub-trailer
     part-trailer-start
     part-trailer-end
     trailer-requires
     enum-known-sum
     enum-told-2
-    returns-6
-    returns-7)
+    returns-5
+    returns-6)

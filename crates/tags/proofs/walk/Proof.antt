@@ -1,10 +1,10 @@
 -- `tags::walk` meets its contract: the whole place is what was passed and what is left. Assumes nothing.
-use mathlib.Core.Path.{_≡_, sym, _∙_}
+use mathlib.Core.Path.{sym, _∙_}
 use Prim.Native.Nat.{_-_}
 use native.Mathlib.Omega.{arith}
 use borrow.Author.Needs.{needs}
-use Rattle.frame.proofs.Walk.{found, never-no}
-use Rattle.tags.proofs.Walking.{Walks, walk-start, tells-end, tells-stop, tells-stray, walk-more}
+use Rattle.frame.proofs.Walk.{found}
+use Rattle.tags.proofs.Walking.{Walks, walk-start, tells-end, tells-broken, tells-stop, tells-stray, walk-more}
 use Rattle.tags.proofs.walk.Statement.{statement}
 use Rattle.tags.proofs.walk.Tie as tie
 
@@ -18,7 +18,7 @@ no-marks-requires : tie.Need-no-marks-requires Inv-loop μ-loop
 no-marks-requires c κs = search needs
 
 loop-holds : tie.Need-loop-holds Inv-loop μ-loop
-loop-holds c = let p = c .before .before .pre in walk-start _ _ _ _ _ _ _ (c .no-marks .ensures) (p .1 .0) (p .1 .1) (p .0)
+loop-holds c = let p = c .before .before .pre in walk-start _ _ _ _ _ _ _ (c .no-marks .ensures) (p .0) (p .1 .0) (p .1 .1)
 
 field-requires : tie.Need-field-requires Inv-loop μ-loop
 field-requires c κs = search needs
@@ -30,7 +30,9 @@ enum-told : tie.Need-enum-told Inv-loop μ-loop
 enum-told c = search needs
 
 returns : tie.Need-returns Inv-loop μ-loop
-returns c = absurd (never-no _ _ (c .before .before .before .before .loop .inv .chained) (c .before .before .before .loop-test .taken) (sym (c .before .before .field .ensures) ∙ c .enum-told .given .1))
+returns c =
+    let d = c .before .before in
+    tells-broken _ _ _ _ _ _ _ _ (d .before .before .loop .inv) (d .before .loop-test .taken) (sym (d .field .ensures) ∙ c .enum-told .given .1)
 
 returns-2 : tie.Need-returns-2 Inv-loop μ-loop
 returns-2 c =
