@@ -118,13 +118,9 @@ void check_books(const Case &c, const Start &s, Store store, const PeerBoard &bo
          std::to_string(c.depth) + ", " + std::to_string(c.waiting) + " waiting: instrument " + differs);
 }
 
-// Whether the scan finds the store sound: every call of the library scans it before all else, and the shortest of them then
-// looks for an instrument that is not followed.
-bool scan(const Store &store) {
-    const uint64_t unfollowed = 1;
-    uint64_t numbers[SELKAVORN_STATE_NUMBERS];
-    return selkavorn_state(store.data(), store.size(), unfollowed, numbers, SELKAVORN_STATE_NUMBERS) == SELKAVORN_UNFOLLOWED;
-}
+// Whether the scan finds the store sound: every call of the library scans it before all else, and a state that is given no room
+// is refused right after.
+bool scan(const Store &store) { return selkavorn_state(store.data(), store.size(), 1, nullptr, 0) == SELKAVORN_ARGUMENT; }
 
 // Feeding, the scan, and QuickFIX. Where none waits, all 640 places are used in the store that is scanned.
 void measure_case(const Case &c, const FIX::DataDictionary &dictionary, const Measure &measure) {

@@ -21,8 +21,8 @@ NOTES = """\
   change, delete and add at places drawn evenly, so that each side holds 19 or 20 of 20 places. Where one waits, its entries
   and all others join the queue, which a round fills to at most 256.
 - `feed` is `selkavorn_feed`: it scans the store, reads and checks the message, counts it, and changes the books. `scan` is
-  `selkavorn_state` of an instrument that is not followed, so the scan with the shortest refusal, of a store that holds all 640
-  places; where one waits it holds 600, and the queue is full in it, and half full in `feed` on average.
+  `selkavorn_state` that is given no room, so the scan with the shortest refusal, of a store that holds all 640 places; where one
+  waits it holds 600, and the queue is full in it, and half full in `feed` on average.
 - `parse` is QuickFIX's `Message` made from the same bytes with a dictionary of the same tags (`bench/dictionary.xml`), which
   checks length and checksum; `validate` adds its validation by that dictionary; `book` adds the number, its time, and plain
   vectors of places that take the entries, without a queue (`bench/peer.cpp`).

@@ -12,7 +12,7 @@ use Rattle.book.specs.declared.Entry.{Entry}
 use Rattle.book.specs.declared.Side.{Side}
 use Rattle.book.specs.declared.Done.{Done}
 use Rattle.book.specs.Rules.{mostPlaces, badPlace, isPlace}
-use Rattle.book.specs.Sides.{done, refused, heldAt, newAt, changeAt, deleteAt, deleteThru, deleteFrom, sideStep, breachOf, firstGone}
+use Rattle.book.specs.Sides.{done, refused, heldAt, newAt, changeAt, deleteAt, deleteThru, deleteFrom, sideStep, breachOf, firstChanged}
 use Rattle.book.proofs.Tests.{by-test, place-in, place-zero, place-is}
 use Rattle.book.proofs.Untouched.{side-answered}
 
@@ -138,20 +138,21 @@ module _ (s : Side) (action p : ℕ) (e : Entry) (clear : breachOf (s .held) act
   thru-leaves z = rw (z, at-place (omega arith))
 
   -- both remove the places from the first that goes up to p
-  pub gone-leaves : (from : ℕ) → from ≡ firstGone action (p - 1) → 1 < action → action < 4
+  pub gone-leaves : (from : ℕ) → from ≡ firstChanged action (p - 1) → 1 < action → action < 4
       → sideStep s action p e ≡ done (s .held - (p - from)) (take from (s .places) ++ drop (from + (p - from)) (s .places))
   gone-leaves from h low high =
       by-test (λ (k : ℕ). from ≡ k → sideStep s action p e ≡ done (s .held - (p - from)) (take from (s .places) ++ drop (from + (p - from)) (s .places)))
-      (eqb action 2)
+      (eqb action 3)
       (λ z q.
+      let a : p - from ≡ p = omega arith in
+      rw (a, q, zero-add) (thru-leaves (eqb-true action 3 z)))
+      (λ z q.
+      let o = eqb-false action 3 z in
       let w = fair .place in
       let a : p - from ≡ 1 = omega arith in
       let b : from + 1 ≡ p = omega arith in
-      rw (a, b, q) (delete-leaves (eqb-true action 2 z)))
-      (λ z q.
-      let o = eqb-false action 2 z in
-      let a : p - from ≡ p = omega arith in
-      rw (a, q, zero-add) (thru-leaves (omega arith)))
+      let d : action ≡ 2 = omega arith in
+      rw (a, b, q) (delete-leaves d))
       h
 
   pub from-leaves : action ≡ 4 → sideStep s action p e ≡ done (p - 1) (take (p - 1) (s .places))

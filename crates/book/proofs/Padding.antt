@@ -5,7 +5,7 @@ use Prim.Native.Nat.{ℕ, zero, suc, _+_, _-_, _≤_}
 use native.Mathlib.Nat.{not-suc-le-zero, le-of-suc-le-suc}
 use native.Mathlib.Numerals.{unary-clauses}
 use native.Mathlib.Omega.{arith}
-use lib.ListN.{length, replicate}
+use lib.ListN.{length, take, replicate}
 use Rattle.book.specs.declared.Entry.{Entry}
 use Rattle.book.specs.Sides.{noEntry, pad}
 
@@ -29,6 +29,15 @@ pad-all (suc k) (x ∷ l) t h = ap (cons x) (pad-all k l t (omega arith))
 
 pub pad-whole : (k : ℕ) (l : List Entry) → length l ≡ k → pad k l ≡ l
 pad-whole k l h = rw append-nil at (pad-all k l [] h)
+
+-- the first entries are those that the places are made of
+pub take-pad : (n k : ℕ) (l t : List Entry) → length l ≡ n → take k (pad n (take k l ++ t)) ≡ take k l
+unfolding pad
+take-pad n zero l t h = refl
+take-pad zero (suc k) [] t h = refl
+take-pad zero (suc k) (x ∷ l) t h = absurd (omega arith)
+take-pad (suc n) (suc k) [] t h = absurd (omega arith)
+take-pad (suc n) (suc k) (x ∷ l) t h = ap (cons x) (take-pad n k l t (omega arith))
 
 -- unused places at the end are the ones that come by themselves
 pub pad-unused : (k m : ℕ) (l : List Entry) → pad k (l ++ replicate m noEntry) ≡ pad k l

@@ -1,10 +1,13 @@
--- What one entry leaves alone: a bid the offers, an offer the bids, a breach the whole book. J leaves nothing.
+-- What one entry leaves alone: a bid the offers, an offer the bids, a breach the whole book, and an action the places before the first
+-- that it may change. J leaves nothing.
 use mathlib.Core.Path.{_≡_, refl, ap}
 use mathlib.Core.Bool.{Bool, cond}
-use Prim.Native.Nat.{ℕ, _+_, _≤_, _<_}
+use mathlib.Core.List.{List, [], _++_, append-nil}
+use Prim.Native.Nat.{ℕ, _+_, _-_, _≤_, _<_}
 use native.Mathlib.Omega.{arith}
 use lib.Dec.{ltb, eqb}
-use borrow.Author.Tests.{eq-eqb, ne-eqb}
+use lib.ListN.{length, take}
+use borrow.Author.Tests.{eq-eqb, eqb-true, eqb-false, ne-eqb}
 use Rattle.book.specs.declared.Entry.{Entry}
 use Rattle.book.specs.declared.Side.{Side}
 use Rattle.book.specs.declared.Book.{Book}
@@ -12,8 +15,9 @@ use Rattle.book.specs.declared.Update.{Update}
 use Rattle.book.specs.declared.Done.{Done}
 use Rattle.book.specs.declared.Turn.{Turn}
 use Rattle.book.specs.Rules.{mostPlaces, badPlace, isPlace}
-use Rattle.book.specs.Sides.{noBook, refused, bidsDone, offersDone, newAt, changeAt, deleteAt, deleteThru, deleteFrom, sideStep, bookStep}
+use Rattle.book.specs.Sides.{noBook, pad, refused, heldAt, bidsDone, offersDone, newAt, changeAt, deleteAt, deleteThru, deleteFrom, sideStep, firstChanged, bookStep}
 use Rattle.book.proofs.Tests.{by-test}
+use Rattle.book.proofs.Padding.{take-pad}
 
 module _ (b : Book) (u : Update) where
   pub a-bid : u .what ≡ 0 → bookStep b u ≡ bidsDone b (sideStep (b .bids) (u .action) (u .place) (u .entry))
@@ -80,3 +84,27 @@ book-answered b u =
     (λ _. by-test (AnsweredBook b) (eqb (u .what) 1)
     (λ _. record { reason = f .reason; as-was = λ g. ap (λ (s : Side). record { bids = b .bids; offers = s }) (f .as-was g) })
     (λ _. record { reason = omega arith; as-was = λ g. absurd (omega arith) }))
+
+module _ (s : Side) (p : ℕ) (full : length (s .places) ≡ mostPlaces) where
+  -- the first k places are as they were
+  abbrev Stays : ℕ → Done → Type 0
+  Stays k d = take k (d .side .places) ≡ take k (s .places)
+
+  shifted : (l : List Entry) → take (p - 1) (pad mostPlaces (take (p - 1) (s .places) ++ l)) ≡ take (p - 1) (s .places)
+  shifted l = take-pad mostPlaces (p - 1) (s .places) l full
+
+  at-stays : (d : Done) → Stays (p - 1) d → Stays (p - 1) (heldAt s p d)
+  at-stays d h = by-test (Stays (p - 1)) (isPlace p (s .held)) (λ _. h) (λ _. refl)
+
+  -- the places before the first that an action may change stay, breach or not
+  pub before-changed : (action : ℕ) (e : Entry) → Stays (firstChanged action (p - 1)) (sideStep s action p e)
+  unfolding sideStep newAt changeAt deleteAt deleteThru deleteFrom
+  before-changed action e =
+      by-test (λ k. Stays k (sideStep s action p e)) (eqb action 3) (λ _. refl)
+      (λ o. by-test (Stays (p - 1)) (eqb action 0)
+      (λ _. by-test (Stays (p - 1)) (isPlace p (s .held + 1))
+      (λ _. by-test (Stays (p - 1)) (ltb (s .held) mostPlaces) (λ _. shifted _) (λ _. refl)) (λ _. refl))
+      (λ _. by-test (Stays (p - 1)) (eqb action 1) (λ _. at-stays _ (shifted _))
+      (λ _. by-test (Stays (p - 1)) (eqb action 2) (λ _. at-stays _ (shifted _))
+      (λ _. by-test (Stays (p - 1)) (eqb action 3) (λ z. absurd (eqb-false action 3 o (eqb-true action 3 z)))
+      (λ _. by-test (Stays (p - 1)) (eqb action 4) (λ _. at-stays _ (rw append-nil at (shifted []))) (λ _. refl))))))

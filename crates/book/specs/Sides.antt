@@ -85,9 +85,9 @@ breachOf n action p =
     cond (eqb action 0) (cond (isPlace p (n + 1)) (cond (ltb n mostPlaces) 0 noRoom) badPlace)
     (cond (isPlace p n) (cond (leb action 4) 0 badPlace) badPlace)
 
--- The index of the first place that a delete (2) or a delete thru removes, where the place that it names has the index `at`.
-abbrev pub firstGone : ℕ → ℕ → ℕ
-firstGone action at = cond (eqb action 2) at 0
+-- The index of the first place that an action may change, where the place that it names has the index `at`: delete thru (3) begins at place 1.
+abbrev pub firstChanged : ℕ → ℕ → ℕ
+firstChanged action at = cond (eqb action 3) 0 at
 
 -- A book after an operation on its bids.
 abbrev pub bidsDone : Book → Done → Turn

@@ -5,7 +5,7 @@ ghost use mathlib.Core.List.{_∷_, _++_};
 ghost use Prim.Native.Nat.{_+_, _≤_};
 ghost use lib.ListN.{take, drop};
 ghost use Rattle.book.specs.Rules.{mostPlaces};
-ghost use Rattle.book.specs.Sides.{noEntry, noSide, noBook, pad, breachOf, firstGone, sideStep, bookStep};
+ghost use Rattle.book.specs.Sides.{noEntry, noSide, noBook, pad, breachOf, firstChanged, sideStep, bookStep};
 
 // The most places of a side; the arrays below have this many.
 pub const PLACES: usize = 20;
@@ -195,14 +195,14 @@ pub fn breach(n: usize, action: u64, p: usize) -> u64
     DONE
 }
 
-// The index of the first place that a delete or a delete thru removes; the one that it names is the last.
-fn first_gone(action: u64, at: usize) -> usize
-    ensures { λ r. ⌜ (r ≡ firstGone action at) × (r ≤ at) ⌝ }
+// The index of the first place that an action may change, where the place that it names has the index `at`.
+pub fn first_changed(action: u64, at: usize) -> usize
+    ensures { λ r. ⌜ (r ≡ firstChanged action at) × (r ≤ at) ⌝ }
 {
-    if action == DELETE {
-        return at;
+    if action == DELETE_THRU {
+        return 0;
     }
-    0
+    at
 }
 
 // The side after an action that is no breach.
@@ -228,7 +228,7 @@ pub fn worked(s: Side, action: u64, p: usize, e: Entry) -> Side
             Side { places, held: at }
         }
         _ => {
-            let from = first_gone(action, at);
+            let from = first_changed(action, at);
             let gone = p - from;
             let places = pull(a, from, gone);
             let held = n - gone;

@@ -1,14 +1,14 @@
 -- A thing that is read from a store depends on its window alone: so it stays where nothing in its window is written, and
 -- it comes back where its own numbers are.
 use mathlib.Core.Path.{_≡_, refl, sym, ap, _∙_}
-use mathlib.Core.List.{List, []}
+use mathlib.Core.List.{List, [], _++_}
 use Prim.Native.Nat.{ℕ, zero, suc, _+_, _*_, _/_, _%_, _≤_, _<_}
 use native.Mathlib.Nat.{add-zero, zero-add, add-assoc, add-comm}
 use native.Mathlib.Numerals.{add-one}
 use native.Mathlib.Omega.{arith}
 use lib.IntN.{ℤ}
-use lib.ListN.{length, getD}
-use lib.Seq.{sets, ext-getD}
+use lib.ListN.{length, getD, take, drop, set, length-set, length-append, take-append-drop, List·getD-append}
+use lib.Seq.{sets, ext-getD, getD-set-other}
 use Rattle.price.specs.Held.{ofHeld}
 use Rattle.price.proofs.Holding.{of-held-of, held-of-held}
 use Rattle.book.specs.declared.Entry.{Entry}
@@ -17,7 +17,7 @@ use Rattle.book.specs.declared.Update.{Update}
 use Rattle.book.specs.Sides.{noEntry, noSide}
 use Rattle.cells.specs.Cells.{tab, zeros, flat, words, entryAt, sideWords, sideAt, updateWords, queuedWords, updateAt}
 use Rattle.cells.proofs.Stores.{before-sets, behind-sets, in-sets, sets-same}
-use Rattle.cells.proofs.Tables.{length-tab, getD-tab, tab-ext, in-zeros, length-flat, flat-at}
+use Rattle.cells.proofs.Tables.{length-tab, getD-tab, tab-ext, in-zeros, flat-append, length-flat, flat-at}
 
 -- two stores are the same from a and b on, n far
 abbrev pub Same : ℕ → List ℕ → ℕ → List ℕ → ℕ → Type 0
@@ -125,6 +125,22 @@ pub side-again : (xs : List ℕ) (a : ℕ) → a + 101 ≤ length xs → sets xs
 side-again xs a h =
     let w : length (sideWords (sideAt xs a)) ≡ 101 = length-side-words (sideAt xs a) (length-side-at xs a) in
     sets-same 0 xs a (sideWords (sideAt xs a)) (omega arith) (λ k l. side-numbers xs a k (omega arith))
+
+-- first places of a side that stand there already, written again once how many are held is written, change nothing
+pub places-again : (xs : List ℕ) (a held n : ℕ) (es : List Entry) → a + 101 ≤ length xs → take n es ≡ take n (sideAt xs a .places)
+    → sets (set xs a held) (a + 1) (flat (take n es)) ≡ set xs a held
+places-again xs a held n es h q =
+    let t = sideAt xs a .places in
+    let f = flat (take n t) in
+    let w : f ++ flat (drop n t) ≡ flat t = sym (flat-append (take n t) (drop n t)) ∙ ap flat (take-append-drop n t) in
+    let m : length f ≤ 100 = omega (arith, length-flat t, length-side-at xs a, ap length w, length-append f (flat (drop n t))) in
+    rw q
+    (sets-same 0 (set xs a held) (a + 1) f (omega (arith, length-set xs a held)) (λ k l.
+    let e : a + suc k ≡ a + 1 + k = omega arith in
+    sym (List·getD-append f (flat (drop n t)) 0 k l)
+    ∙ ap (λ (ws : List ℕ). getD ws k 0) w
+    ∙ side-numbers xs a (suc k) (omega arith)
+    ∙ rw e (sym (getD-set-other xs a (a + 1 + k) held 0 (λ z. omega arith)))))
 
 -- zeros are the empty side
 pub no-side-at : sideAt [] 0 ≡ noSide

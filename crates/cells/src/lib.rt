@@ -5,7 +5,7 @@ use book::Side;
 use book::Update;
 ghost use mathlib.Core.Path.{_≡_};
 ghost use Prim.Native.Nat.{_+_, _≤_};
-ghost use lib.ListN.{length};
+ghost use lib.ListN.{length, take};
 ghost use lib.Seq.{sets};
 ghost use Rattle.cells.specs.Cells.{zeros, words, entryAt, sideWords, sideAt, updateWords, queuedWords, updateAt};
 
@@ -67,14 +67,20 @@ pub fn save_side(store: &mut [u64], at: usize, s: Side)
     requires { ⌜ at + 101 ≤ length (now store) ⌝ }
     ensures { λ _. ⌜ now (store .exit) ≡ sets (now (store .entry)) at (sideWords s) ⌝ }
 {
+    save_side_from(store, at, s, 0);
+}
+
+// The same where the first `from` places stand there already: they are not written again.
+pub fn save_side_from(store: &mut [u64], at: usize, s: Side, from: usize)
+    requires { ⌜ (at + 101 ≤ length (now store)) × (take from (s .places) ≡ take from (sideAt (now store) at .places)) ⌝ }
+    ensures { λ _. ⌜ now (store .exit) ≡ sets (now (store .entry)) at (sideWords s) ⌝ }
+{
     store[at] = s.held as u64;
-    let mut i = 0usize;
-    let mut o = at + 1;
+    let mut i = from;
     while i < PLACES {
         let e = s.places[i];
-        save_entry(store, o, e);
+        save_entry(store, at + 1 + i * ENTRY, e);
         i += 1;
-        o += ENTRY;
     }
 }
 

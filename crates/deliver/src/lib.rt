@@ -28,7 +28,8 @@ fn change(store: &mut [u64], at: usize, u: Update) -> u64
         return reason;
     }
     let t = book::worked(s, u.action, u.place, e);
-    cells::save_side(store, at, t);
+    let from = book::first_changed(u.action, u.place - 1);
+    cells::save_side_from(store, at, t, from);
     0
 }
 

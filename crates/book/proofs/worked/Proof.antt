@@ -25,11 +25,11 @@ put-requires c κs = search needs
 keep-requires : tie.Need-keep-requires
 keep-requires c κs = search needs
 
-first-gone-requires : tie.Need-first-gone-requires
-first-gone-requires c κs = search needs
+first-changed-requires : tie.Need-first-changed-requires
+first-changed-requires c κs = search needs
 
 sub-gone : tie.Need-sub-gone
-sub-gone c = omega (arith, c .first-gone .ensures .1)
+sub-gone c = omega (arith, c .first-changed .ensures .1)
 
 pull-requires : tie.Need-pull-requires
 pull-requires c κs = search needs
@@ -69,7 +69,8 @@ returns-4 c =
     let k = no-breach (x .s .held) (x .action) (x .p) (b .pre) .known in
     let low : 1 < x .action = omega (arith, r .0 .0 .1, r .0 .1) in
     let high : x .action < 4 = omega (arith, r .1) in
-    left-by (c .pull .ensures) (gone-leaves (x .s) (x .action) (x .p) (x .e) (b .pre) (c .before .first-gone .result) (c .before .first-gone .ensures .0) low high)
+    let f = c .before .first-changed in
+    left-by (c .pull .ensures) (gone-leaves (x .s) (x .action) (x .p) (x .e) (b .pre) (f .result) (f .ensures .0) low high)
 
 pub worked-spec : {M : Type 1} → statement M
 worked-spec =
@@ -80,7 +81,7 @@ worked-spec =
     add-held
     put-requires
     keep-requires
-    first-gone-requires
+    first-changed-requires
     sub-gone
     pull-requires
     sub-held
