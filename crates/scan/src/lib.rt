@@ -212,7 +212,7 @@ pub fn apart(run: &[u64], at: usize, step: usize, n: usize) -> bool
     true
 }
 
-// The records of the n instruments.
+// The records of the n instruments. Where their ids rise, which is seen on the way, none stands there twice.
 fn records(store: &[u64], n: usize) -> bool
     requires { ⌜ (storeSize ≤ length (now store)) × (n ≤ 16) ⌝ }
     ensures { λ r. ⌜ r ≡ recordsScan (now (store .entry)) n ⌝ }
@@ -220,11 +220,17 @@ fn records(store: &[u64], n: usize) -> bool
     if !zero(store, HEADING, SPARE) {
         return false;
     }
+    let mut last = 0u64;
+    let mut up = true;
     let mut i = 0usize;
     while i < n {
-        if !instrument(store, store::IDS + i * store::RECORD) {
+        let at = store::IDS + i * store::RECORD;
+        if !instrument(store, at) {
             return false;
         }
+        let id = store[at];
+        up = up & (last < id);
+        last = id;
         i += 1;
     }
     let unused = zero(
@@ -232,6 +238,9 @@ fn records(store: &[u64], n: usize) -> bool
         store::IDS + n * store::RECORD,
         RECORDS - n * store::RECORD,
     );
+    if up {
+        return unused;
+    }
     let distinct = apart(store, store::IDS, store::RECORD, n);
     unused & distinct
 }
