@@ -120,7 +120,9 @@ void check_books(const Case &c, const Start &s, Store store, const PeerBoard &bo
 
 // Whether the scan finds the store sound: every call of the library scans it before all else, and a state that is given no room
 // is refused right after.
-bool scan(const Store &store) { return selkavorn_state(store.data(), store.size(), 1, nullptr, 0) == SELKAVORN_ARGUMENT; }
+bool scan(const uint64_t *store) {
+    return selkavorn_state(store, SELKAVORN_STORE_NUMBERS, 1, nullptr, 0) == SELKAVORN_ARGUMENT;
+}
 
 // Feeding, the scan, and QuickFIX. Where none waits, all 640 places are used in the store that is scanned.
 void measure_case(const Case &c, const FIX::DataDictionary &dictionary, const Measure &measure) {
@@ -132,11 +134,12 @@ void measure_case(const Case &c, const FIX::DataDictionary &dictionary, const Me
     PeerBoard board;
     if (c.waiting)
         for (const std::string &x : xs) feed(scanned, x);
+    const uint64_t *const numbers = scanned.data();
     auto nothing = [] {};
     std::vector<Measured> all = {
         {columns(c, length, "feed"), xs.size(), [&] { store = s.store; },
          for_each(xs, [&](const std::string &x) { return feed(store, x) == SELKAVORN_DONE + waiting; }), {}},
-        {columns(c, length, "scan"), CALLS_A_ROUND, nothing, again([&] { return scan(scanned); }), {}},
+        {columns(c, length, "scan"), CALLS_A_ROUND, nothing, again([numbers] { return scan(numbers); }), {}},
         {columns(c, length, "parse"), xs.size(), nothing,
          for_each(xs, [&](const std::string &x) { return peer_parse(dictionary, x); }), {}},
         {columns(c, length, "validate"), xs.size(), nothing,

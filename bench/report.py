@@ -1,5 +1,6 @@
 #!/usr/bin/env python3
 """report.py FOLDER: prints what a run of scripts/bench measured, and whether each aim is met, as docs/BENCH.md has it."""
+import statistics
 import sys
 
 from results import DEPTHS, ENTRIES, QUICKFIX, Case, Results
@@ -8,11 +9,11 @@ CALLS = ("open", "feed", "quote", "write", "state")
 STATES = ("none waiting", "one waiting")
 MOST_STACK = 24576  # bytes
 
-# An aim on times: what it says, what is compared for messages of how many entries, the bound, and whether the bound itself is good.
-RATIO_AIMS = (
-    ("the scan takes at most 0.5 of QuickFIX's parse of 1 entry", "scan", "parse", 1, 0.5, True),
-    ("feeding 1 entry takes less than QuickFIX's parse", "feed", "parse", 1, 1.0, False),
-    ("feeding 10 entries takes under 0.4 of QuickFIX with its book", "feed", "book", 10, 0.4, False),
+# An aim on times: what it says, what is compared for messages of how many entries, and the bound.
+SCAN_AIM = ("the scan takes at most 0.5 of QuickFIX's parse of 1 entry", 0.5)
+FEED_AIMS = (
+    ("feeding 1 entry takes less than QuickFIX's parse", "feed", "parse", 1, 1.0),
+    ("feeding 10 entries takes under 0.4 of QuickFIX with its book", "feed", "book", 10, 0.4),
 )
 STACK_AIM = f"the deepest stack is under {MOST_STACK:,} bytes"
 
@@ -116,12 +117,21 @@ def sizes(results):
     return table(["function"] + results.machines, rows + [["all"] + [number(s) for s in sums]])
 
 
+def scan_ratio(results, waiting):
+    """The scan is the same in all rows, but for where the store lies: the middle one of them, by the shorter parse of 1 entry."""
+    scan = statistics.median(results.ns(case, "scan") for case in cases(waiting))
+    return scan / min(results.ns(Case(depth, 1, waiting), "parse") for depth in DEPTHS)
+
+
 def judged(results):
     """For each aim: what it says, what was measured in each state, and whether that is good where none waits."""
-    for says, ours, theirs, entries, bound, itself in RATIO_AIMS:
+    says, bound = SCAN_AIM
+    scans = [scan_ratio(results, waiting) for waiting in range(len(STATES))]
+    yield says, [f"{ratio:.2f}" for ratio in scans], scans[0] <= bound
+    for says, ours, theirs, entries, bound in FEED_AIMS:
         worst = [max(results.ratio(Case(depth, entries, waiting), ours, theirs) for depth in DEPTHS)
                  for waiting in range(len(STATES))]
-        yield says, [f"{ratio:.2f}" for ratio in worst], worst[0] < bound or (itself and worst[0] == bound)
+        yield says, [f"{ratio:.2f}" for ratio in worst], worst[0] < bound
     deep = max(stack.bytes for stack in results.stacks)
     yield STACK_AIM, [number(deep)] * len(STATES), deep < MOST_STACK
 
@@ -151,7 +161,9 @@ def sections(results):
     yield "## Aims\n"
     yield aims(results)
     yield ("The aims are for boards on which none waits; where one waits, the same is measured without an aim. A ratio is of times, "
-           "and is the worse one of order and price depth. The stack is the deepest of all calls measured.\n")
+           "and is the worse one of order and price depth. The scan does not depend on the message, and its rows differ by where the "
+           "store and the stack happen to lie beside each other in the cache: the aim takes their median. The stack is the deepest of "
+           "all calls measured.\n")
     yield "## Time of one message, ns\n"
     yield "The proved code feeds (the scan is a part of that); QuickFIX parses, validates too, keeps a book too.\n"
     for waiting, state in enumerate(STATES):
