@@ -162,7 +162,7 @@ def sections(results):
     yield aims(results)
     yield ("The aims are for boards on which none waits; where one waits, the same is measured without an aim. A ratio is of times, "
            "and is the worse one of order and price depth. The scan does not depend on the message, and its rows differ by where the "
-           "store and the stack happen to lie beside each other in the cache: the aim takes their median. The stack is the deepest of "
+           "store happens to lie in memory: the aim takes their median. The stack is the deepest of "
            "all calls measured.\n")
     yield "## Time of one message, ns\n"
     yield "The proved code feeds (the scan is a part of that); QuickFIX parses, validates too, keeps a book too.\n"
