@@ -4,7 +4,7 @@ use mathlib.Core.Bool.{Bool, true, false, cond, _&&_}
 use mathlib.Core.List.{List, [], _∷_}
 use Prim.Native.Nat.{ℕ, _*_, _≤_, _<_}
 use lib.Dec.{ltb, leb, eqb}
-use lib.IntN.{pos, natAbs}
+use lib.IntN.{pos}
 use lib.Signed.{ltZ}
 use lib.ListN.{length}
 use borrow.Author.Tests.{le-leb, lt-leb, leb-false, eqb-false, ltb-true}
@@ -14,9 +14,9 @@ use Rattle.moment.specs.Ages.{ageOf}
 use Rattle.book.specs.Canonical.{All}
 use Rattle.book.specs.declared.Entry.{Entry}
 use Rattle.board.specs.Board.{Board, look, at, noInst}
-use Rattle.board.specs.Ranges.{idFine, entryFine, within, momentFine, orderFine, ordersFine}
+use Rattle.board.specs.Ranges.{idFine, entryFine}
 use Rattle.board.specs.Sound.{Sound, SoundInst}
-use Rattle.board.proofs.Tested.{both, three}
+use Rattle.board.proofs.Tested.{entry-sound}
 use Rattle.board.proofs.Each.{each-at}
 use Rattle.store.specs.Meaning.{boardAt}
 use Rattle.sound.specs.Sound.{sound}
@@ -29,11 +29,7 @@ use Rattle.ask.specs.Fine.{FineTop, FineQuote, FineQuoted}
 -- ---- every moment is in range
 
 pub entry-moment : (depth : ℕ) (e : Entry) → entryFine depth e ≡ true → e .moment < moments
-unfolding entryFine
-entry-moment depth e h =
-    let by = cond (eqb depth 0) (orderFine (e .by) (e .more)) (ordersFine (e .by) (e .more)) in
-    let p = three (ltb (natAbs (e .price)) 10000000000000000) (within 1 999999999999 (e .size)) (momentFine (e .moment) && by) h in
-    ltb-true (e .moment) moments (both (momentFine (e .moment)) by (p .2) .0)
+entry-moment depth e h = entry-sound depth e h .moment
 
 top-fine : (depth : ℕ) (l : List Entry) → All (λ e. entryFine depth e ≡ true) l → FineTop (topOf l)
 top-fine depth [] h = tt

@@ -15,4 +15,5 @@ pub mod Books
 pub mod Queued
 pub mod Keeping
 pub mod Others
+pub mod Taken
 pub mod Distinct

@@ -42,7 +42,7 @@ gives-own-only i us b e =
 
 -- Messages in order: the queue is joined, let go and settled without touching an instrument
 
-at-settled : (i : ℕ) (w : Bool) (b c : Board) → at i b ≡ at i c → at i (settled w b) ≡ at i c
+pub at-settled : (i : ℕ) (w : Bool) (b c : Board) → at i b ≡ at i c → at i (settled w b) ≡ at i c
 at-settled i false b c e = e
 at-settled i true b c e = by-test (λ d. at i d ≡ at i c) (anyWaiting (b .insts)) (λ _. e) (λ _. e)
 

@@ -5,15 +5,18 @@ use mathlib.Core.List.{List, [], _∷_}
 use Prim.Native.Nat.{ℕ, _+_, _≤_}
 use native.Mathlib.Omega.{arith}
 use lib.Dec.{ltb, leb, eqb}
+use lib.IntN.{natAbs}
 use lib.ListN.{length}
 use borrow.Author.Tests.{leb-true, ltb-true, eqb-true, le-leb, lt-ltb, eq-eqb}
+use Rattle.price.specs.Price.{top}
+use Rattle.moment.specs.Moments.{moments}
 use Rattle.book.specs.Rules.{Lists, mostPlaces}
 use Rattle.book.specs.Canonical.{All}
 use Rattle.book.specs.declared.Entry.{Entry}
 use Rattle.board.specs.Board.{Inst, Queued, Board, idsOf, anyWaiting}
 use Rattle.board.specs.Count.{mostQueued}
-use Rattle.board.specs.Ranges.{all, within, mostNumber, idFine, entryFine, updateFine}
-use Rattle.board.specs.Sound.{mostInsts, distinct, sideFine, bookFine, instFine, rising, queuedFine, heardFine, soundNumbers, soundInsts, soundQueue, soundRest, soundBoard, Each, SoundSide, SoundInst, Rising, SoundQueued, Sound}
+use Rattle.board.specs.Ranges.{all, within, mostNumber, mostSize, idFine, priceFine, sizeFine, momentFine, byFine, entryFine, updateFine}
+use Rattle.board.specs.Sound.{mostInsts, distinct, sideFine, bookFine, instFine, rising, queuedFine, heardFine, soundNumbers, soundInsts, soundQueue, soundRest, soundBoard, Each, SoundEntry, SoundSide, SoundInst, Rising, SoundQueued, Sound}
 
 -- Both tests of a pair
 
@@ -55,7 +58,20 @@ pub all-entries : (P : Entry → Type 0) (l : List Entry) → All P l → Each P
 all-entries P [] h = tt
 all-entries P (e ∷ l) h = (h .0, all-entries P l (h .1))
 
--- Sides, instruments
+-- Entries, sides, instruments
+
+pub entry-sound : (depth : ℕ) (e : Entry) → entryFine depth e ≡ true → SoundEntry depth e
+unfolding entryFine
+entry-sound depth e h =
+    let p = four (priceFine (e .price)) (sizeFine (e .size)) (momentFine (e .moment)) (byFine depth (e .by) (e .more)) h in
+    let s = within-true 1 mostSize (e .size) (p .1) in
+    record {
+      price = ltb-true (natAbs (e .price)) top (p .0);
+      size-low = s .0;
+      size-high = s .1;
+      moment = ltb-true (e .moment) moments (p .2);
+      by = p .3;
+    }
 
 pub side-sound : (depth : ℕ) (l : List Entry) → sideFine depth l ≡ true → SoundSide depth l
 unfolding sideFine

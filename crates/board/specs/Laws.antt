@@ -59,6 +59,22 @@ OwnSnapshotOnly = (d : ℕ) (h : Head) (us : List Update) (b : Board) → d ≢ 
 abbrev pub GivesOwnOnly : Type 0
 GivesOwnOnly = (i : ℕ) (us : List Update) (b : Board) → mine i us ≡ [] → at i (gives us b) ≡ at i b
 
+-- After a snapshot is taken (4) its instrument is Live, and its reason is 0; where the replay broke (10) it is Waiting.
+abbrev pub TakenIsLive : Type 0
+TakenIsLive =
+    (h : Head) (us : List Update) (b : Board) → feed (snapshot h us) b .answer ≡ 4
+    → (inst (h .id) (feed (snapshot h us) b .board) .waiting ≡ false) × (inst (h .id) (feed (snapshot h us) b .board) .reason ≡ 0)
+
+abbrev pub BrokeIsWaiting : Type 0
+BrokeIsWaiting =
+    (h : Head) (us : List Update) (b : Board) → feed (snapshot h us) b .answer ≡ 10
+    → inst (h .id) (feed (snapshot h us) b .board) .waiting ≡ true
+
+-- A snapshot changes neither H nor the heard time: a quote is dated by what was last counted.
+abbrev pub SnapshotKeepsDate : Type 0
+SnapshotKeepsDate =
+    (h : Head) (us : List Update) (b : Board) → (feed (snapshot h us) b .board .H ≡ b .H) × (feed (snapshot h us) b .board .heard ≡ b .heard)
+
 -- A message with a number answers 0 to 3, a snapshot 4 to 10, one that is not read 11 to 14.
 abbrev pub answersTo : Message → ℕ → Bool
 answersTo (numbered n heard us) a = leb a 3

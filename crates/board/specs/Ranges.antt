@@ -3,11 +3,15 @@ use mathlib.Core.Bool.{Bool, true, cond, _&&_, _||_}
 use mathlib.Core.List.{List, [], _∷_}
 use Prim.Native.Nat.{ℕ}
 use lib.Dec.{ltb, leb, eqb}
-use lib.IntN.{natAbs}
+use lib.IntN.{ℤ, natAbs}
 use lib.ListN.{length}
 use Rattle.book.specs.declared.Entry.{Entry}
 use Rattle.book.specs.declared.Update.{Update}
+use Rattle.price.specs.Price.{top}
+use Rattle.moment.specs.Moments.{moments}
+use Rattle.orderid.specs.OrderIds.{idSound}
 use Rattle.message.specs.Message.{Message, Head, numbered, snapshot, refused, answerOf}
+pub use Rattle.message.specs.Ranges.{mostNumber, mostId, idFine}
 
 -- f of each of a list.
 abbrev pub all : {A : Type 0} → (A → Bool) → List A → Bool
@@ -18,33 +22,36 @@ all f (x ∷ xs) = f x && all f xs
 abbrev pub within : ℕ → ℕ → ℕ → Bool
 within lo hi n = leb lo n && leb n hi
 
--- 34, 369 and 911 end here.
-abbrev pub mostNumber : ℕ
-mostNumber = 4294967295
-
--- 48: 1 to 18 digits, at least 1.
-abbrev pub idFine : ℕ → Bool
-idFine d = within 1 999999999999999999 d
-
--- 52, and 272 with 273: 3,652,425 days of the years 0000 to 9999, each of 24 * 60 * 61 seconds in milliseconds.
+-- 52, and 272 with 273: a moment of the years 0000 to 9999.
 abbrev pub momentFine : ℕ → Bool
-momentFine m = ltb m 320829012000000
+momentFine m = ltb m moments
 
--- 37: the words of at most 8 bytes are the numbers 1 to 6,161,234,432,565,770, those of exactly 8 start at 65,545,047,154,955;
--- a second word stands only after a first of 8 bytes.
-abbrev pub orderFine : ℕ → ℕ → Bool
-orderFine by more = within 1 6161234432565770 by && (eqb more 0 || (leb 65545047154955 by && leb more 6161234432565770))
+-- 270: a price that 9 digits and the decimals can say.
+abbrev pub priceFine : ℤ → Bool
+priceFine p = ltb (natAbs p) top
 
--- 346: 1 to 65,535.
+-- 271: 1 to 999,999,999,999.
+abbrev pub mostSize : ℕ
+mostSize = 999999999999
+
+abbrev pub sizeFine : ℕ → Bool
+sizeFine n = within 1 mostSize n
+
+-- 346: 1 to 65,535, with nothing more.
+abbrev pub mostOrders : ℕ
+mostOrders = 65535
+
 abbrev pub ordersFine : ℕ → ℕ → Bool
-ordersFine by more = within 1 65535 by && eqb more 0
+ordersFine by more = within 1 mostOrders by && eqb more 0
 
--- A place's entry: 270 with 9 digits and 7 decimals, 271, its moment, and 37 on an order-depth channel or 346 on a price-depth one.
+-- 37 on an order-depth channel (0), 346 on a price-depth one.
+abbrev pub byFine : ℕ → ℕ → ℕ → Bool
+byFine depth by more = cond (eqb depth 0) (idSound by more) (ordersFine by more)
+
+-- A place's entry: 270, 271, its moment, and 37 or 346.
 unfoldable pub entryFine : ℕ → Entry → Bool
 entryFine depth e =
-    ltb (natAbs (e .price)) 10000000000000000
-    && (within 1 999999999999 (e .size)
-    && (momentFine (e .moment) && cond (eqb depth 0) (orderFine (e .by) (e .more)) (ordersFine (e .by) (e .more))))
+    priceFine (e .price) && (sizeFine (e .size) && (momentFine (e .moment) && byFine depth (e .by) (e .more)))
 
 -- Values that an entry doesn't need are zero.
 unfoldable pub noneFine : Entry → Bool

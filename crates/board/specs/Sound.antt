@@ -4,13 +4,16 @@ use mathlib.Core.Bool.{Bool, true, false, cond, not, _&&_, _||_}
 use mathlib.Core.List.{List, [], _∷_}
 use Prim.Native.Nat.{ℕ, _+_, _≤_, _<_}
 use lib.Dec.{ltb, leb, eqb}
+use lib.IntN.{natAbs}
 use lib.ListN.{length}
+use Rattle.price.specs.Price.{top}
+use Rattle.moment.specs.Moments.{moments}
 use Rattle.book.specs.Rules.{Lists, empty, mostPlaces}
 use Rattle.book.specs.Canonical.{All}
 use Rattle.book.specs.declared.Entry.{Entry}
 use Rattle.board.specs.Board.{Inst, Queued, Board, idsOf, anyWaiting}
 use Rattle.board.specs.Count.{mostQueued}
-use Rattle.board.specs.Ranges.{all, within, mostNumber, idFine, momentFine, entryFine, updateFine}
+use Rattle.board.specs.Ranges.{all, within, mostNumber, mostSize, idFine, momentFine, byFine, entryFine, updateFine}
 
 -- A channel follows 1 to 16 instruments.
 abbrev pub mostInsts : ℕ
@@ -79,6 +82,14 @@ soundBoard b = soundNumbers b && (soundInsts b && (soundQueue b && soundRest b))
 abbrev pub Each : {A : Type 0} → (A → Type 0) → List A → Type 0
 Each P [] = Unit {0}
 Each P (x ∷ xs) = P x × Each P xs
+
+-- An entry in range.
+pub record SoundEntry (depth : ℕ) (e : Entry) : Type 0 where
+  pub price : natAbs (e .price) < top
+  pub size-low : 1 ≤ e .size
+  pub size-high : e .size ≤ mostSize
+  pub moment : e .moment < moments
+  pub by : byFine depth (e .by) (e .more) ≡ true
 
 pub record SoundSide (depth : ℕ) (l : List Entry) : Type 0 where
   pub room : length l ≤ mostPlaces

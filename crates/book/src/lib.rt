@@ -13,11 +13,8 @@ pub const PLACES: usize = 20;
 // What an entry is of: a bid,
 pub const BID: u64 = 0;
 
-// an offer,
+// an offer, or else the empty book, J.
 pub const OFFER: u64 = 1;
-
-// or the empty book, as which any number above is taken too.
-pub const J: u64 = 2;
 
 // What an entry does: new moves the rest down,
 pub const NEW: u64 = 0;
@@ -25,13 +22,10 @@ pub const NEW: u64 = 0;
 // change replaces a place whole,
 pub const CHANGE: u64 = 1;
 
-// delete removes a place,
-pub const DELETE: u64 = 2;
-
 // delete thru removes place 1 up to a place,
 pub const DELETE_THRU: u64 = 3;
 
-// delete from removes a place up to the last.
+// delete from removes a place up to the last; what is left of 0 to 4, delete, removes a place.
 pub const DELETE_FROM: u64 = 4;
 
 // Why a side is broken: it is not,

@@ -15,7 +15,7 @@ use Rattle.book.specs.declared.Entry.{Entry}
 use Rattle.book.specs.declared.Side.{Side}
 use Rattle.book.specs.declared.Update.{Update}
 use Rattle.book.specs.Sides.{noEntry, noSide}
-use Rattle.cells.specs.Cells.{tab, zeros, flat, words, entryAt, sideWords, sideAt, updateWords, queuedWords, updateAt}
+use Rattle.cells.specs.Cells.{tab, zeros, flat, words, entryAt, sideWords, sideAt, updateWords, queuedWords, updateAt, sideSize}
 use Rattle.cells.proofs.Stores.{before-sets, behind-sets, in-sets, sets-same}
 use Rattle.cells.proofs.Tables.{length-tab, getD-tab, tab-ext, in-zeros, flat-append, length-flat, flat-at}
 
@@ -69,17 +69,17 @@ no-entry-at = refl
 
 -- ---- sides
 
-pub length-side-words : (s : Side) → length (s .places) ≡ 20 → length (sideWords s) ≡ 101
+pub length-side-words : (s : Side) → length (s .places) ≡ 20 → length (sideWords s) ≡ sideSize
 length-side-words s n = omega (arith, length-flat (s .places))
 
 pub length-side-at : (xs : List ℕ) (a : ℕ) → length (sideAt xs a .places) ≡ 20
 length-side-at xs a = length-tab (λ (i : ℕ). entryAt xs (a + 1 + i * 5)) 20
 
-pub side-ext : (xs : List ℕ) (a : ℕ) (ys : List ℕ) (b : ℕ) → Same 101 xs a ys b → sideAt xs a ≡ sideAt ys b
+pub side-ext : (xs : List ℕ) (a : ℕ) (ys : List ℕ) (b : ℕ) → Same sideSize xs a ys b → sideAt xs a ≡ sideAt ys b
 side-ext xs a ys b s =
     let t : sideAt xs a .places ≡ sideAt ys b .places =
     tab-ext _ _ 20 (λ i l. entry-ext xs _ ys _ (λ k m. simp add-assoc (s (1 + (i * 5 + k)) (omega arith)))) in
-    rw (same-first 101 xs a ys b (omega arith) s, t)
+    rw (same-first sideSize xs a ys b (omega arith) s, t)
 
 -- a side's numbers, read again, are the side
 pub side-words : (s : Side) → length (s .places) ≡ 20 → sideAt (sideWords s) 0 ≡ s
@@ -95,7 +95,7 @@ side-words s n =
     ap (λ (ps : List Entry). record { places = ps; held = s .held }) p
 
 -- the numbers of a side that was read are those that it was read from
-pub side-numbers : (xs : List ℕ) (a j : ℕ) → j < 101 → getD (sideWords (sideAt xs a)) j 0 ≡ getD xs (a + j) 0
+pub side-numbers : (xs : List ℕ) (a j : ℕ) → j < sideSize → getD (sideWords (sideAt xs a)) j 0 ≡ getD xs (a + j) 0
 side-numbers xs a zero h = rw add-zero
 side-numbers xs a (suc j) h =
     let f : ℕ → Entry = λ (i : ℕ). entryAt xs (a + 1 + i * 5) in
@@ -108,26 +108,26 @@ side-numbers xs a (suc j) h =
     ap (λ (k : ℕ). getD (flat (tab f 20)) k 0) q ∙ e ∙ ap (λ (k : ℕ). getD xs k 0) (sym r)
 
 -- what is written before or behind a side leaves it
-pub side-before : (xs : List ℕ) (a : ℕ) (ws : List ℕ) (b : ℕ) → b + 101 ≤ a → sideAt (sets xs a ws) b ≡ sideAt xs b
-side-before xs a ws b h = side-ext (sets xs a ws) b xs b (same-before 101 xs a ws b h)
+pub side-before : (xs : List ℕ) (a : ℕ) (ws : List ℕ) (b : ℕ) → b + sideSize ≤ a → sideAt (sets xs a ws) b ≡ sideAt xs b
+side-before xs a ws b h = side-ext (sets xs a ws) b xs b (same-before sideSize xs a ws b h)
 
 pub side-behind : (xs : List ℕ) (a : ℕ) (ws : List ℕ) (b : ℕ) → a + length ws ≤ b → sideAt (sets xs a ws) b ≡ sideAt xs b
-side-behind xs a ws b h = side-ext (sets xs a ws) b xs b (same-behind 101 xs a ws b h)
+side-behind xs a ws b h = side-ext (sets xs a ws) b xs b (same-behind sideSize xs a ws b h)
 
 -- a side that was written is read again
-pub side-back : (xs : List ℕ) (a : ℕ) (s : Side) → length (s .places) ≡ 20 → a + 101 ≤ length xs → sideAt (sets xs a (sideWords s)) a ≡ s
+pub side-back : (xs : List ℕ) (a : ℕ) (s : Side) → length (s .places) ≡ 20 → a + sideSize ≤ length xs → sideAt (sets xs a (sideWords s)) a ≡ s
 side-back xs a s n h =
-    let m : length (sideWords s) ≡ 101 = length-side-words s n in
-    side-ext (sets xs a (sideWords s)) a (sideWords s) 0 (same-in 101 xs a (sideWords s) (omega arith) (omega arith)) ∙ side-words s n
+    let m : length (sideWords s) ≡ sideSize = length-side-words s n in
+    side-ext (sets xs a (sideWords s)) a (sideWords s) 0 (same-in sideSize xs a (sideWords s) (omega arith) (omega arith)) ∙ side-words s n
 
 -- a side that was read, written again where it stood, changes nothing
-pub side-again : (xs : List ℕ) (a : ℕ) → a + 101 ≤ length xs → sets xs a (sideWords (sideAt xs a)) ≡ xs
+pub side-again : (xs : List ℕ) (a : ℕ) → a + sideSize ≤ length xs → sets xs a (sideWords (sideAt xs a)) ≡ xs
 side-again xs a h =
-    let w : length (sideWords (sideAt xs a)) ≡ 101 = length-side-words (sideAt xs a) (length-side-at xs a) in
+    let w : length (sideWords (sideAt xs a)) ≡ sideSize = length-side-words (sideAt xs a) (length-side-at xs a) in
     sets-same 0 xs a (sideWords (sideAt xs a)) (omega arith) (λ k l. side-numbers xs a k (omega arith))
 
 -- first places of a side that stand there already, written again once how many are held is written, change nothing
-pub places-again : (xs : List ℕ) (a held n : ℕ) (es : List Entry) → a + 101 ≤ length xs → take n es ≡ take n (sideAt xs a .places)
+pub places-again : (xs : List ℕ) (a held n : ℕ) (es : List Entry) → a + sideSize ≤ length xs → take n es ≡ take n (sideAt xs a .places)
     → sets (set xs a held) (a + 1) (flat (take n es)) ≡ set xs a held
 places-again xs a held n es h q =
     let t = sideAt xs a .places in
@@ -147,8 +147,8 @@ pub no-side-at : sideAt [] 0 ≡ noSide
 unfolding tab ofHeld
 no-side-at = refl
 
-pub side-zeros : (xs : List ℕ) (a m b : ℕ) → a ≤ b → b + 101 ≤ a + m → a + m ≤ length xs → sideAt (sets xs a (zeros m)) b ≡ noSide
-side-zeros xs a m b h g l = side-ext (sets xs a (zeros m)) b [] 0 (same-zeros 101 xs a m b h g l) ∙ no-side-at
+pub side-zeros : (xs : List ℕ) (a m b : ℕ) → a ≤ b → b + sideSize ≤ a + m → a + m ≤ length xs → sideAt (sets xs a (zeros m)) b ≡ noSide
+side-zeros xs a m b h g l = side-ext (sets xs a (zeros m)) b [] 0 (same-zeros sideSize xs a m b h g l) ∙ no-side-at
 
 -- ---- updates, and a number before one
 

@@ -6,6 +6,7 @@ use Rattle.price.specs.Held.{heldOf, ofHeld}
 use Rattle.book.specs.declared.Entry.{Entry}
 use Rattle.book.specs.declared.Side.{Side}
 use Rattle.book.specs.declared.Update.{Update}
+use Rattle.book.specs.Rules.{mostPlaces}
 
 -- f 0, .., f (n - 1); shut, so that no goal writes it out.
 unfoldable pub tab : {A : Type 0} → (ℕ → A) → ℕ → List A
@@ -26,6 +27,9 @@ entryAt xs at =
     record { price = ofHeld (getD xs at 0); size = getD xs (at + 1) 0; by = getD xs (at + 2) 0; more = getD xs (at + 3) 0; moment = getD xs (at + 4) 0 }
 
 -- A side is 101: how many are held, and 20 entries.
+abbrev pub sideSize : ℕ
+sideSize = 101
+
 unfoldable pub flat : List Entry → List ℕ
 flat [] = []
 flat (e ∷ es) = words e ++ flat es
@@ -34,7 +38,7 @@ abbrev pub sideWords : Side → List ℕ
 sideWords s = s .held ∷ flat (s .places)
 
 abbrev pub sideAt : List ℕ → ℕ → Side
-sideAt xs at = record { places = tab (λ (i : ℕ). entryAt xs (at + 1 + i * 5)) 20; held = getD xs at 0 }
+sideAt xs at = record { places = tab (λ (i : ℕ). entryAt xs (at + 1 + i * 5)) mostPlaces; held = getD xs at 0 }
 
 -- A queued entry is 10: the number of its message, who, what, action, place, and its entry.
 abbrev pub updateWords : Update → List ℕ

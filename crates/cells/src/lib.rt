@@ -7,15 +7,17 @@ ghost use mathlib.Core.Path.{_≡_};
 ghost use Prim.Native.Nat.{_+_, _≤_};
 ghost use lib.ListN.{length, take};
 ghost use lib.Seq.{sets};
-ghost use Rattle.cells.specs.Cells.{zeros, words, entryAt, sideWords, sideAt, updateWords, queuedWords, updateAt};
+ghost use Rattle.cells.specs.Cells.{zeros, words, entryAt, sideSize, sideWords, sideAt, updateWords, queuedWords, updateAt};
 
-// The numbers of an update.
+// The numbers of an entry.
+pub const ENTRY: usize = 5;
+
+// The numbers of an update, and where among them stand what it is of and its entry.
 pub const UPDATE: usize = 9;
 
-// The places of a side, and the numbers of an entry.
-const PLACES: usize = 20;
+pub const UPDATE_WHAT: usize = 1;
 
-const ENTRY: usize = 5;
+pub const UPDATE_ENTRY: usize = 4;
 
 // The entry in the 5 numbers from `at` on.
 pub fn load_entry(store: &[u64], at: usize) -> Entry
@@ -45,14 +47,14 @@ pub fn save_entry(store: &mut [u64], at: usize, e: Entry)
 
 // The side in the 101 numbers from `at` on: all 20 places, used or not.
 pub fn load_side(store: &[u64], at: usize) -> Side
-    requires { ⌜ at + 101 ≤ length (now store) ⌝ }
+    requires { ⌜ at + sideSize ≤ length (now store) ⌝ }
     ensures { λ r. ⌜ r ≡ sideAt (now (store .entry)) at ⌝ }
 {
     let none = book::no_entry();
     let mut places = [none; 20];
     let mut i = 0usize;
     let mut o = at + 1;
-    while i < PLACES {
+    while i < book::PLACES {
         places[i] = load_entry(store, o);
         i += 1;
         o += ENTRY;
@@ -64,7 +66,7 @@ pub fn load_side(store: &[u64], at: usize) -> Side
 }
 
 pub fn save_side(store: &mut [u64], at: usize, s: Side)
-    requires { ⌜ at + 101 ≤ length (now store) ⌝ }
+    requires { ⌜ at + sideSize ≤ length (now store) ⌝ }
     ensures { λ _. ⌜ now (store .exit) ≡ sets (now (store .entry)) at (sideWords s) ⌝ }
 {
     save_side_from(store, at, s, 0);
@@ -72,12 +74,12 @@ pub fn save_side(store: &mut [u64], at: usize, s: Side)
 
 // The same where the first `from` places stand there already: they are not written again.
 pub fn save_side_from(store: &mut [u64], at: usize, s: Side, from: usize)
-    requires { ⌜ (at + 101 ≤ length (now store)) × (take from (s .places) ≡ take from (sideAt (now store) at .places)) ⌝ }
+    requires { ⌜ (at + sideSize ≤ length (now store)) × (take from (s .places) ≡ take from (sideAt (now store) at .places)) ⌝ }
     ensures { λ _. ⌜ now (store .exit) ≡ sets (now (store .entry)) at (sideWords s) ⌝ }
 {
     store[at] = s.held as u64;
     let mut i = from;
-    while i < PLACES {
+    while i < book::PLACES {
         let e = s.places[i];
         save_entry(store, at + 1 + i * ENTRY, e);
         i += 1;
@@ -89,10 +91,10 @@ pub fn load_update(store: &[u64], at: usize) -> Update
     requires { ⌜ at + 9 ≤ length (now store) ⌝ }
     ensures { λ r. ⌜ r ≡ updateAt (now (store .entry)) at ⌝ }
 {
-    let e = load_entry(store, at + 4);
+    let e = load_entry(store, at + UPDATE_ENTRY);
     Update {
         who: store[at],
-        what: store[at + 1],
+        what: store[at + UPDATE_WHAT],
         action: store[at + 2],
         place: store[at + 3] as usize,
         entry: e,
@@ -104,11 +106,11 @@ pub fn save_update(store: &mut [u64], at: usize, u: Update)
     ensures { λ _. ⌜ now (store .exit) ≡ sets (now (store .entry)) at (updateWords u) ⌝ }
 {
     store[at] = u.who;
-    store[at + 1] = u.what;
+    store[at + UPDATE_WHAT] = u.what;
     store[at + 2] = u.action;
     store[at + 3] = u.place as u64;
     let e = u.entry;
-    save_entry(store, at + 4, e);
+    save_entry(store, at + UPDATE_ENTRY, e);
 }
 
 // A queued entry: the number of its message, and the update.

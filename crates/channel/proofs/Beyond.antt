@@ -15,7 +15,7 @@ use Rattle.book.specs.Rules.{Lists}
 use Rattle.book.specs.Canonical.{KeptBook, bookOf}
 use Rattle.book.proofs.Tests.{by-test}
 use Rattle.book.proofs.Canon.{kept-book-of}
-use Rattle.cells.specs.Cells.{tab, sideWords, queuedWords, zeros}
+use Rattle.cells.specs.Cells.{tab, sideWords, queuedWords, zeros, sideSize}
 use Rattle.cells.proofs.Windows.{length-side-words}
 use Rattle.heading.specs.Marks.{marked}
 use Rattle.message.specs.Message.{Message, numbered, snapshot, refused}
@@ -129,8 +129,8 @@ live-within i b s h k =
     let xs = s .store in
     let ys = sets xs (bidsOf i) (sideWords (b .bids)) in
     let zs = sets ys (offersOf i) (sideWords (b .offers)) in
-    agree-then (agree-wider 0 7168 (omega arith) (omega arith) (agree-sets xs (bidsOf i) (sideWords (b .bids)) 101 (length-side-words (b .bids) (k .bids .full))))
-    (agree-then (agree-wider 0 7168 (omega arith) (omega arith) (agree-sets ys (offersOf i) (sideWords (b .offers)) 101 (length-side-words (b .offers) (k .offers .full))))
+    agree-then (agree-wider 0 7168 (omega arith) (omega arith) (agree-sets xs (bidsOf i) (sideWords (b .bids)) sideSize (length-side-words (b .bids) (k .bids .full))))
+    (agree-then (agree-wider 0 7168 (omega arith) (omega arith) (agree-sets ys (offersOf i) (sideWords (b .offers)) sideSize (length-side-words (b .offers) (k .offers .full))))
     (agree-wider 0 7168 (omega arith) (omega arith) (agree-sets zs (reasonOf i) (0 ∷ []) 1 refl)))
 
 take-within : (i S : ℕ) (b : Book) (s : State) → i < 16 → KeptBook b → Within s (takeS i S b s .state)

@@ -18,7 +18,7 @@ use Rattle.book.specs.Canonical.{Kept, KeptBook, listsIn}
 use borrow.Author.Tests.{eqb-true}
 use Rattle.book.proofs.Untouched.{a-bid, an-offer}
 use Rattle.book.proofs.Keeping.{kept-side, kept-apply}
-use Rattle.cells.specs.Cells.{zeros, sideAt, sideWords}
+use Rattle.cells.specs.Cells.{zeros, sideAt, sideWords, sideSize}
 use Rattle.cells.proofs.Tables.{in-zeros}
 use Rattle.cells.proofs.Windows.{length-side-words}
 use Rattle.board.specs.Board.{Inst, Board, at, put}
@@ -28,7 +28,7 @@ use Rattle.store.specs.Canon.{Unused, Spare, Formed}
 use Rattle.store.proofs.Regions.{Agree, agree-sets, agree-zeros, agree-wider, number-apart}
 use Rattle.store.proofs.Decode.{inst-is, inst-other, own-bids, own-offers, own-zeros, queue-behind, at-board, put-board}
 use Rattle.store.proofs.Kept.{spare-agree, formed-book}
-use Rattle.deliver.specs.Gives.{Taken, taken, changed, applyS}
+use Rattle.deliver.specs.Gives.{Taken, taken, worked, applyS}
 
 -- what the store t is to the store xs whose book i it changed
 pub record Applies (f q i : ℕ) (u : Update) (xs : List ℕ) (t : Taken) : Type 0 where
@@ -52,9 +52,9 @@ module _ (s : State) (f : Formed s) (i : ℕ) (l : i < s .head .followed) (u : U
   few = let n = f .few in omega arith
 
   -- the j-th side of the store, written whole
-  side-spare : (j : ℕ) (ws : List ℕ) → j < s .head .followed * 2 → length ws ≡ 101 → Spare (s .head .followed) (s .head .queued) (sets (s .store) (160 + j * 128) ws)
+  side-spare : (j : ℕ) (ws : List ℕ) → j < s .head .followed * 2 → length ws ≡ sideSize → Spare (s .head .followed) (s .head .queued) (sets (s .store) (160 + j * 128) ws)
   side-spare j ws h n =
-      spare-agree (s .head .followed) (s .head .queued) (s .head .followed) (s .head .queued) (agree-sets (s .store) (160 + j * 128) ws 101 n) (f .spare) (λ k _ v _. v)
+      spare-agree (s .head .followed) (s .head .queued) (s .head .followed) (s .head .queued) (agree-sets (s .store) (160 + j * 128) ws sideSize n) (f .spare) (λ k _ v _. v)
       (λ k p o _ v. absurd (v .side j h p (omega arith)))
 
   pub applies : Applies (s .head .followed) (s .head .queued) i u (s .store) (applyS i u (s .store))
@@ -63,22 +63,22 @@ module _ (s : State) (f : Formed s) (i : ℕ) (l : i < s .head .followed) (u : U
     where
       go : (a b : Bool) → eqb (u .what) 0 ≡ a → eqb (u .what) 1 ≡ b → Applies (s .head .followed) (s .head .queued) i u (s .store) (applyS i u (s .store))
       go true b e g =
-          let d = changed (sideAt (s .store) (bidsOf i)) u in
+          let d = worked (sideAt (s .store) (bidsOf i)) u in
           let n : length (d .side .places) ≡ 20 = kept-side (sideAt (s .store) (bidsOf i)) (f .books i l .bids) (u .action) (u .place) (u .entry) .full in
           let m = length-side-words (d .side) n in
           let w : 160 + i * 2 * 128 ≡ bidsOf i = omega arith in
           rw e (record {
-            agree = agree-wider (bidsOf i) (bidsOf i + 256) (omega arith) (omega arith) (agree-sets (s .store) (bidsOf i) (sideWords (d .side)) 101 m);
+            agree = agree-wider (bidsOf i) (bidsOf i + 256) (omega arith) (omega arith) (agree-sets (s .store) (bidsOf i) (sideWords (d .side)) sideSize m);
             turn = a-bid (bookAt (s .store) i) u (eqb-true _ _ e) ∙ turn-by (sym (own-bids (s .store) i (f .long) few (d .side) n));
             spare = rw w at (side-spare (i * 2) (sideWords (d .side)) (omega arith) m);
           })
       go false true e g =
-          let d = changed (sideAt (s .store) (offersOf i)) u in
+          let d = worked (sideAt (s .store) (offersOf i)) u in
           let n : length (d .side .places) ≡ 20 = kept-side (sideAt (s .store) (offersOf i)) (f .books i l .offers) (u .action) (u .place) (u .entry) .full in
           let m = length-side-words (d .side) n in
           let w : 160 + (i * 2 + 1) * 128 ≡ offersOf i = omega arith in
           rw (e, g) (record {
-            agree = agree-wider (bidsOf i) (bidsOf i + 256) (omega arith) (omega arith) (agree-sets (s .store) (offersOf i) (sideWords (d .side)) 101 m);
+            agree = agree-wider (bidsOf i) (bidsOf i + 256) (omega arith) (omega arith) (agree-sets (s .store) (offersOf i) (sideWords (d .side)) sideSize m);
             turn = an-offer (bookAt (s .store) i) u (eqb-true _ _ g) ∙ turn-by (sym (own-offers (s .store) i (f .long) few (d .side) n));
             spare = rw w at (side-spare (i * 2 + 1) (sideWords (d .side)) (omega arith) m);
           })

@@ -1,5 +1,5 @@
 pub mod Outcomes
-pub mod Changing
+pub mod Working
 pub mod Applying
 pub mod Breaking
 pub mod Giving

@@ -23,17 +23,17 @@ abbrev pub taken : ℕ → List ℕ → Taken
 taken r xs = record { reason = r; store = xs }
 
 -- The side at a takes it.
-abbrev pub changed : Side → Update → Done
-changed s u = sideStep s (u .action) (u .place) (u .entry)
+abbrev pub worked : Side → Update → Done
+worked s u = sideStep s (u .action) (u .place) (u .entry)
 
-abbrev pub changeS : ℕ → Update → List ℕ → Taken
-changeS a u xs = taken (changed (sideAt xs a) u .reason) (sets xs a (sideWords (changed (sideAt xs a) u .side)))
+abbrev pub onSideS : ℕ → Update → List ℕ → Taken
+onSideS a u xs = taken (worked (sideAt xs a) u .reason) (sets xs a (sideWords (worked (sideAt xs a) u .side)))
 
 -- The book of instrument i takes it: the bids, the offers, or for J zeros for both.
 unfoldable pub applyS : ℕ → Update → List ℕ → Taken
 applyS i u xs =
-    cond (eqb (u .what) 0) (changeS (bidsOf i) u xs)
-    (cond (eqb (u .what) 1) (changeS (offersOf i) u xs) (taken 0 (sets xs (bidsOf i) (zeros bookSize))))
+    cond (eqb (u .what) 0) (onSideS (bidsOf i) u xs)
+    (cond (eqb (u .what) 1) (onSideS (offersOf i) u xs) (taken 0 (sets xs (bidsOf i) (zeros bookSize))))
 
 -- Instrument i breaks: both sides emptied, the reason, mark Waiting.
 abbrev pub breakS : ℕ → ℕ → State → State

@@ -5,21 +5,17 @@ use heading::Heading;
 ghost use mathlib.Core.Path.{_≡_};
 ghost use Prim.Native.Nat.{_+_, _*_, _≤_, _<_};
 ghost use lib.ListN.{length};
+ghost use Rattle.cells.specs.Cells.{sideSize};
 ghost use Rattle.cells.specs.Runs.{updateSize, updatesIn};
 ghost use Rattle.store.specs.Layout.{storeSize};
 ghost use Rattle.store.specs.Meaning.{st};
 ghost use Rattle.store.specs.Canon.{Formed};
-ghost use Rattle.deliver.specs.Gives.{taken, changeS, applyS, breakS, giveS, giveAllS};
-
-// What an entry is of; any other number is J.
-const BID: u64 = 0;
-
-const OFFER: u64 = 1;
+ghost use Rattle.deliver.specs.Gives.{taken, onSideS, applyS, breakS, giveS, giveAllS};
 
 // The side at `at` takes an entry: 0, or the reason of the breach.
-fn change(store: &mut [u64], at: usize, u: Update) -> u64
-    requires { ⌜ at + 101 ≤ length (now store) ⌝ }
-    ensures { λ r. ⌜ taken r (now (store .exit)) ≡ changeS at u (now (store .entry)) ⌝ }
+fn on_side(store: &mut [u64], at: usize, u: Update) -> u64
+    requires { ⌜ at + sideSize ≤ length (now store) ⌝ }
+    ensures { λ r. ⌜ taken r (now (store .exit)) ≡ onSideS at u (now (store .entry)) ⌝ }
 {
     let s = cells::load_side(store, at);
     let e = u.entry;
@@ -39,11 +35,11 @@ fn apply(store: &mut [u64], i: usize, u: Update) -> u64
     ensures { λ r. ⌜ taken r (now (store .exit)) ≡ applyS i u (now (store .entry)) ⌝ }
 {
     let at = i * store::BOOK;
-    if u.what == BID {
-        return change(store, store::BIDS + at, u);
+    if u.what == book::BID {
+        return on_side(store, store::BIDS + at, u);
     }
-    if u.what == OFFER {
-        return change(store, store::OFFERS + at, u);
+    if u.what == book::OFFER {
+        return on_side(store, store::OFFERS + at, u);
     }
     cells::zero_run(store, store::BIDS + at, store::BOOK);
     0

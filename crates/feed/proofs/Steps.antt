@@ -22,8 +22,10 @@ use Rattle.fields.specs.Messages.{messageIn}
 use Rattle.fields.specs.Reads.{Reads}
 use Rattle.inrange.proofs.Read.{read-in-range}
 use Rattle.heading.specs.declared.Heading.{Heading}
+use Rattle.heading.specs.Marks.{markedIn}
 use Rattle.store.specs.Meaning.{State, st, boardOf, boardAt, boardIn, loaded, headingAt, saved, written}
 use Rattle.store.specs.Canon.{Canon}
+use Rattle.store.proofs.Marked.{waiting-board}
 use Rattle.sound.specs.Sound.{sound}
 use Rattle.sound.proofs.Readers.{canon}
 use Rattle.channel.specs.Feeds.{Feeds}
@@ -76,8 +78,11 @@ module _ (bytes xs : List ℕ) where
         go (snapshot j us) {n} q = omega (arith, leb-true n 10 (both (leb 4 n) (leb n 10) q .1))
         go (refused v) {n} q = omega (arith, leb-true n 14 (both (leb 11 n) (leb n 14) q .1))
 
-    pub done : (n : ℕ) → n ≡ waitingIn (boardIn t .insts) → Fed bytes xs (a + 256 * n) (saved t)
+    -- the marks that are counted are the instruments that wait
+    pub done : (n : ℕ) → n ≡ markedIn (t .head .marks) 16 → Fed bytes xs (a + 256 * n) (saved t)
     unfolding fed feedAnswer feedStore
     done n w =
         let b : boardIn t ≡ feed m (boardAt xs) .board = ap (λ (o : Out). o .board) (feeds .means) in
-        record { answer = rw (s, w, b, left .answer); store = rw (s, left .store) }
+        let k = feeds .canon .formed in
+        let v : n ≡ waitingIn (boardIn t .insts) = w ∙ waiting-board t (k .few) (k .marks) in
+        record { answer = rw (s, v, b, left .answer); store = rw (s, left .store) }

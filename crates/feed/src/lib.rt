@@ -21,7 +21,7 @@ pub fn feed(store: &mut [u64], message: &[u8]) -> u64
     let r = fields::read(message, h.depth, &mut run);
     let f = channel::feed_read(store, h, r, &mut run);
     let g = f.head;
-    let n = store::waiting(store, g);
+    let n = g.waiting();
     store::save_heading(store, g);
     f.answer + ABOVE * (n as u64)
 }

@@ -14,18 +14,18 @@ use Rattle.digits.specs.declared.Number.{Number}
 use Rattle.digits.specs.declared.Number.the-variants.{Is, No}
 use Rattle.digits.proofs.Ranges.{ranged-in}
 use Rattle.digits.proofs.Width.{both}
-use Rattle.price.specs.Price.{priceOf}
+use Rattle.price.specs.Price.{top, priceOf}
 use Rattle.price.specs.declared.Priced.{Priced}
 use Rattle.price.proofs.Parts.{price-small}
-use Rattle.moment.specs.Moments.{momentOf, dateOf, timeOf, span, join}
+use Rattle.moment.specs.Moments.{momentOf, dateOf, timeOf, span, moments, join}
 use Rattle.moment.proofs.Bounds.{moment-lt, date-lt, time-lt}
-use Rattle.orderid.specs.OrderIds.{idOf}
+use Rattle.orderid.specs.OrderIds.{idOf, idSound}
 use Rattle.orderid.specs.declared.OrderId.{OrderId}
 use Rattle.orderid.proofs.Back.{read-sound}
 use Rattle.book.specs.declared.Entry.{Entry}
 use Rattle.book.specs.declared.Update.{Update}
 use Rattle.book.specs.Sides.{noEntry}
-use Rattle.board.specs.Ranges.{within, idFine, momentFine, orderFine, ordersFine, entryFine, noneFine, updateFine, shownFine}
+use Rattle.board.specs.Ranges.{within, mostId, mostSize, mostOrders, idFine, priceFine, sizeFine, momentFine, ordersFine, byFine, entryFine, noneFine, updateFine, shownFine}
 use Rattle.entries.specs.Values.{_>>=_, need, Values, number, wholeAt, actionAt, placeAt, sizeAt, heardAt, identified, bvmf, instrumentOf, instrumentAt, sortOf, sortAt, price, priceAt, By, orders, byOf, by, byAt, momentIn, momentAt}
 use Rattle.entries.specs.Entries.{valuesOf, says, bookEntry, emptyBook, entryInX, shownEntry, entryInW}
 use Rattle.frame.specs.Frames.{equal}
@@ -50,22 +50,19 @@ heard-okay v = go (momentOf (v 52)) refl
 
 pub instrument-okay : (v : Values) → okay idFine (instrumentAt v) ≡ true
 unfolding instrumentOf
-instrument-okay v = go (rangedOf 18 1 999999999999999999 (v 48)) (equal (v 22) (56 ∷ []) && bvmf (v 207)) (in-range 18 1 999999999999999999 (v 48) (rangedOf 18 1 999999999999999999 (v 48)) refl)
+instrument-okay v = go (rangedOf 18 1 mostId (v 48)) (equal (v 22) (56 ∷ []) && bvmf (v 207)) (in-range 18 1 mostId (v 48) (rangedOf 18 1 mostId (v 48)) refl)
   where
     go : (x : Number) (z : Bool) → okay idFine (number x) ≡ true → okay idFine (number (identified x z)) ≡ true
     go No z h = refl
     go (Is n) true h = h
     go (Is n) false h = refl
 
-abbrev priceFine : ℤ → Bool
-priceFine p = ltb (natAbs p) 10000000000000000
-
 price-okay : (v : Values) → okay priceFine (priceAt v) ≡ true
 price-okay v = go (priceOf (v 270)) refl
   where
     go : (x : Priced) → priceOf (v 270) ≡ x → okay priceFine (price x) ≡ true
     go Priced.No e = refl
-    go (Priced.Is p) e = lt-ltb (natAbs p) 10000000000000000 (price-small (v 270) p e)
+    go (Priced.Is p) e = lt-ltb (natAbs p) top (price-small (v 270) p e)
 
 moment-okay : (v : Values) → okay momentFine (momentAt v) ≡ true
 unfolding momentIn
@@ -74,33 +71,33 @@ moment-okay v = go (dateOf (v 272)) (timeOf (v 273)) refl refl
     go : (a b : Number) → dateOf (v 272) ≡ a → timeOf (v 273) ≡ b → okay momentFine (number (join span a b)) ≡ true
     go No b p q = refl
     go (Is d) No p q = refl
-    go (Is d) (Is t) p q = lt-ltb (d * span + t) 320829012000000 (omega (arith, date-lt (v 272) p, time-lt (v 273) q))
+    go (Is d) (Is t) p q = lt-ltb (d * span + t) moments (omega (arith, date-lt (v 272) p, time-lt (v 273) q))
 
-abbrev byFine : Bool → By → Bool
-byFine z b = cond z (orderFine (b .by) (b .more)) (ordersFine (b .by) (b .more))
+abbrev byIs : Bool → By → Bool
+byIs z b = cond z (idSound (b .by) (b .more)) (ordersFine (b .by) (b .more))
 
-by-okay : (depth : ℕ) (v : Values) → okay (byFine (eqb depth 0)) (byAt depth v) ≡ true
+by-okay : (depth : ℕ) (v : Values) → okay (λ b. byFine depth (b .by) (b .more)) (byAt depth v) ≡ true
 unfolding byOf
 by-okay depth v = go (eqb depth 0)
   where
-    order : (x : OrderId) → idOf (v 37) ≡ x → okay (byFine true) (by x) ≡ true
+    order : (x : OrderId) → idOf (v 37) ≡ x → okay (byIs true) (by x) ≡ true
     order OrderId.No e = refl
     order (OrderId.Is a b) e = read-sound (v 37) e
 
-    many : (x : Number) → okay (within 1 65535) (number x) ≡ true → okay (byFine false) (by (orders x)) ≡ true
+    many : (x : Number) → okay (within 1 mostOrders) (number x) ≡ true → okay (byIs false) (by (orders x)) ≡ true
     many No h = refl
     many (Is n) h = rw h
 
-    go : (z : Bool) → okay (byFine z) (by (cond z (idOf (v 37)) (orders (rangedOf 5 1 65535 (v 346))))) ≡ true
+    go : (z : Bool) → okay (byIs z) (by (cond z (idOf (v 37)) (orders (rangedOf 5 1 mostOrders (v 346))))) ≡ true
     go true = order (idOf (v 37)) refl
-    go false = many (rangedOf 5 1 65535 (v 346)) (in-range 5 1 65535 (v 346) (rangedOf 5 1 65535 (v 346)) refl)
+    go false = many (rangedOf 5 1 mostOrders (v 346)) (in-range 5 1 mostOrders (v 346) (rangedOf 5 1 mostOrders (v 346)) refl)
 
 values-okay : (depth : ℕ) (v : Values) → okay (entryFine depth) (valuesOf depth v) ≡ true
 unfolding valuesOf entryFine
 values-okay depth v =
     bind priceFine (entryFine depth) (priceAt v) _ (price-okay v)
-    (λ p hp. bind (within 1 999999999999) (entryFine depth) (sizeAt v) _ (whole-okay 271 12 1 999999999999 v)
-    (λ s hs. bind (byFine (eqb depth 0)) (entryFine depth) (byAt depth v) _ (by-okay depth v)
+    (λ p hp. bind sizeFine (entryFine depth) (sizeAt v) _ (whole-okay 271 12 1 mostSize v)
+    (λ s hs. bind (λ b. byFine depth (b .by) (b .more)) (entryFine depth) (byAt depth v) _ (by-okay depth v)
     (λ b hb. bind momentFine (entryFine depth) (momentAt v) _ (moment-okay v)
     (λ m hm. rw (hp, hs, hm, hb)))))
 
@@ -130,7 +127,7 @@ sort-most v = go (v 269)
 book-okay : (depth side action : ℕ) (v : Values) → leb side 1 ≡ true → leb action 4 ≡ true → okay (okay (changeFine depth)) (bookEntry depth side action v) ≡ true
 unfolding bookEntry updateFine
 book-okay depth side action v hs ha =
-    bind (within 1 65535) (okay (changeFine depth)) (placeAt v) _ (whole-okay 290 5 1 65535 v)
+    bind (within 1 mostOrders) (okay (changeFine depth)) (placeAt v) _ (whole-okay 290 5 1 mostOrders v)
     (λ place hp. bind idFine (okay (changeFine depth)) (instrumentAt v) _ (instrument-okay v)
     (λ id hi. bind (fits (leb action 1)) (okay (changeFine depth)) (cond (leb action 1) (valuesOf depth v) (some noEntry)) _ (either (leb action 1))
     (λ entry he. rw (hi, hs, ha, hp) he)))
@@ -163,7 +160,7 @@ x-okay depth v =
 shown-okay : (depth id side : ℕ) (v : Values) → leb side 1 ≡ true → okay (okay (shownFine depth)) (shownEntry depth id side v) ≡ true
 unfolding shownEntry shownFine
 shown-okay depth id side v hs =
-    bind (within 1 65535) (okay (shownFine depth)) (placeAt v) _ (whole-okay 290 5 1 65535 v)
+    bind (within 1 mostOrders) (okay (shownFine depth)) (placeAt v) _ (whole-okay 290 5 1 mostOrders v)
     (λ place hp. bind (entryFine depth) (okay (shownFine depth)) (valuesOf depth v) _ (values-okay depth v) (λ entry he. rw (hs, he)))
 
 pub w-okay : (depth id : ℕ) (v : Values) → okay (okay (shownFine depth)) (entryInW depth id v) ≡ true

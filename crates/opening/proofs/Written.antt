@@ -11,7 +11,7 @@ use lib.Seq.{sets, length-sets, getD-set-same, getD-set-other, getD-take, getD-d
 use borrow.Author.Tests.{lt-ltb}
 use Rattle.book.specs.Sides.{noBook}
 use Rattle.book.proofs.Canon.{kept-no-book}
-use Rattle.cells.specs.Cells.{tab, zeros, sideAt}
+use Rattle.cells.specs.Cells.{tab, zeros, sideAt, sideSize}
 use Rattle.cells.proofs.Stores.{below-or, before-sets, behind-sets, in-sets}
 use Rattle.cells.proofs.Tables.{length-zeros, in-zeros}
 use Rattle.cells.proofs.Windows.{side-ext, no-side-at}
@@ -22,7 +22,7 @@ use Rattle.board.specs.Board.{noInst, fresh, opened}
 use Rattle.board.specs.Ranges.{within, all, idFine}
 use Rattle.board.specs.Sound.{distinct, opens}
 use Rattle.board.proofs.Tested.{four, within-true}
-use Rattle.store.specs.Layout.{idOf, reasonOf, bidsOf, offersOf}
+use Rattle.store.specs.Layout.{idOf, reasonOf, bidsOf, offersOf, layoutNumber}
 use Rattle.store.specs.Meaning.{headingAt, headWords, bookAt, instAt, boardOf, boardAt, loaded, written}
 use Rattle.store.specs.Canon.{Formed}
 use Rattle.store.proofs.Decode.{inst-is}
@@ -60,7 +60,7 @@ module _ (depth : ℕ) (ids xs : List ℕ) (long : 7168 ≤ length xs) (some : 1
   n = length ids
 
   abbrev zeroed : List ℕ
-  zeroed = set (sets xs 0 (zeros 7168)) 0 4601
+  zeroed = set (sets xs 0 (zeros 7168)) 0 layoutNumber
 
   abbrev ws : List ℕ
   ws = headedStore depth n xs
@@ -69,7 +69,7 @@ module _ (depth : ℕ) (ids xs : List ℕ) (long : 7168 ≤ length xs) (some : 1
   zs = openedStore depth ids xs
 
   length-zeroed : length zeroed ≡ length xs
-  length-zeroed = length-set (sets xs 0 (zeros 7168)) 0 4601 ∙ length-sets xs 0 (zeros 7168)
+  length-zeroed = length-set (sets xs 0 (zeros 7168)) 0 layoutNumber ∙ length-sets xs 0 (zeros 7168)
 
   length-ws : length ws ≡ length xs
   length-ws = length-sets zeroed 1 (headWords (freshHeading depth n)) ∙ length-zeroed
@@ -81,10 +81,10 @@ module _ (depth : ℕ) (ids xs : List ℕ) (long : 7168 ≤ length xs) (some : 1
   in-heading : (k : ℕ) → k < 32 → getD zs k 0 ≡ getD ws k 0
   in-heading k h = ids-other ws 0 ids k (λ j l e. omega arith)
 
-  layout-is : getD zs 0 0 ≡ 4601
+  layout-is : getD zs 0 0 ≡ layoutNumber
   layout-is =
       in-heading 0 (omega arith) ∙ before-sets 0 zeroed 1 (headWords (freshHeading depth n)) 0 (omega arith)
-      ∙ getD-set-same (sets xs 0 (zeros 7168)) 0 4601 0 (omega (arith, length-sets xs 0 (zeros 7168)))
+      ∙ getD-set-same (sets xs 0 (zeros 7168)) 0 layoutNumber 0 (omega (arith, length-sets xs 0 (zeros 7168)))
 
   heading-is : headingAt zs ≡ freshHeading depth n
   heading-is =
@@ -103,7 +103,7 @@ module _ (depth : ℕ) (ids xs : List ℕ) (long : 7168 ≤ length xs) (some : 1
   zero-is k h l u =
       ids-other ws 0 ids k (λ j o e. u j o (omega arith))
       ∙ behind-sets 0 zeroed 1 (headWords (freshHeading depth n)) k (omega arith)
-      ∙ getD-set-other (sets xs 0 (zeros 7168)) 0 k 4601 0 (λ e. omega arith)
+      ∙ getD-set-other (sets xs 0 (zeros 7168)) 0 k layoutNumber 0 (λ e. omega arith)
       ∙ in-zeros xs 0 7168 k (omega arith) (omega arith) (omega arith)
 
   -- and what lies beyond is as it was
@@ -111,12 +111,12 @@ module _ (depth : ℕ) (ids xs : List ℕ) (long : 7168 ≤ length xs) (some : 1
   beyond-is k h =
       ids-other ws 0 ids k (λ j o e. omega arith)
       ∙ behind-sets 0 zeroed 1 (headWords (freshHeading depth n)) k (omega arith)
-      ∙ getD-set-other (sets xs 0 (zeros 7168)) 0 k 4601 0 (λ e. omega arith)
+      ∙ getD-set-other (sets xs 0 (zeros 7168)) 0 k layoutNumber 0 (λ e. omega arith)
       ∙ behind-sets 0 xs 0 (zeros 7168) k (omega (arith, length-zeros 7168))
 
   -- ---- the board
 
-  side-is : (a : ℕ) → 160 ≤ a → a + 101 ≤ 4256 → sideAt zs a ≡ sideAt [] 0
+  side-is : (a : ℕ) → 160 ≤ a → a + sideSize ≤ 4256 → sideAt zs a ≡ sideAt [] 0
   side-is a h l = side-ext zs a [] 0 (λ k m. zero-is (a + k) (omega arith) (omega arith) (λ i o e. omega arith))
 
   book-is : (i : ℕ) → i < n → bookAt zs i ≡ noBook

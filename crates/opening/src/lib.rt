@@ -16,16 +16,13 @@ ghost use Rattle.opening.specs.Steps.{freshHeading, idsIn};
 // The depth kind is 0 or 1.
 const MOST_DEPTH: u64 = 1;
 
-// A channel follows at most 16 instruments.
-const MOST_INSTS: usize = 16;
-
 // Whether each SecurityID is in range.
 fn ids_fine(ids: &[u64]) -> bool
     ensures { λ r. ⌜ r ≡ all idFine (now (ids .entry)) ⌝ }
 {
     let mut i = 0usize;
     while i < ids.len() {
-        if (ids[i] < 1) | (store::MOST_ID < ids[i]) {
+        if !message::is_id(ids[i]) {
             return false;
         }
         i += 1;
@@ -41,7 +38,7 @@ fn takes(depth: u64, ids: &[u64]) -> bool
     if MOST_DEPTH < depth {
         return false;
     }
-    if (n < 1) | (MOST_INSTS < n) {
+    if (n < 1) | (store::MOST_INSTS < n) {
         return false;
     }
     if !scan::apart(ids, 0, 1, n) {

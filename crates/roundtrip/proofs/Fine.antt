@@ -14,13 +14,14 @@ use Rattle.orderid.specs.OrderIds.{idSound}
 use Rattle.orderid.proofs.Back.{is-sound}
 use Rattle.book.specs.Canonical.{All}
 use Rattle.book.specs.declared.Entry.{Entry}
-use Rattle.board.specs.Ranges.{within, entryFine, momentFine, orderFine, ordersFine}
+use Rattle.board.specs.Ranges.{within, mostSize, mostOrders, entryFine, ordersFine}
+use Rattle.board.proofs.Tested.{entry-sound}
 use Rattle.pen.specs.Entries.{Writable}
 
 -- 346 in range, with nothing more
 pub record Orders (by more : ℕ) : Type 0 where
   pub low : 1 ≤ by
-  pub high : by ≤ 65535
+  pub high : by ≤ mostOrders
   pub none : more ≡ 0
 
 -- 37 where the depth is 0, else 346
@@ -31,31 +32,26 @@ By false by more = Orders by more
 pub record Fine (depth : ℕ) (e : Entry) : Type 0 where
   pub price : natAbs (e .price) < top
   pub size-low : 1 ≤ e .size
-  pub size-high : e .size ≤ 999999999999
+  pub size-high : e .size ≤ mostSize
   pub moment : e .moment < moments
   pub by : By (eqb depth 0) (e .by) (e .more)
 
-by-is : (t : Bool) (by more : ℕ) → cond t (orderFine by more) (ordersFine by more) ≡ true → By t by more
+by-is : (t : Bool) (by more : ℕ) → cond t (idSound by more) (ordersFine by more) ≡ true → By t by more
 by-is true by more h = h
 by-is false by more h =
-    let x = both (within 1 65535 by) (eqb more 0) h in
-    let y = both (leb 1 by) (leb by 65535) (x .0) in
-    record { low = leb-true 1 by (y .0); high = leb-true by 65535 (y .1); none = eqb-true more 0 (x .1) }
+    let x = both (within 1 mostOrders by) (eqb more 0) h in
+    let y = both (leb 1 by) (leb by mostOrders) (x .0) in
+    record { low = leb-true 1 by (y .0); high = leb-true by mostOrders (y .1); none = eqb-true more 0 (x .1) }
 
 pub fine-is : (depth : ℕ) (e : Entry) → entryFine depth e ≡ true → Fine depth e
-unfolding entryFine
 fine-is depth e h =
-    let rest = cond (eqb depth 0) (orderFine (e .by) (e .more)) (ordersFine (e .by) (e .more)) in
-    let a = both (ltb (natAbs (e .price)) 10000000000000000) (within 1 999999999999 (e .size) && (momentFine (e .moment) && rest)) h in
-    let b = both (within 1 999999999999 (e .size)) (momentFine (e .moment) && rest) (a .1) in
-    let s = both (leb 1 (e .size)) (leb (e .size) 999999999999) (b .0) in
-    let m = both (momentFine (e .moment)) rest (b .1) in
+    let s = entry-sound depth e h in
     record {
-      price = ltb-true (natAbs (e .price)) 10000000000000000 (a .0);
-      size-low = leb-true 1 (e .size) (s .0);
-      size-high = leb-true (e .size) 999999999999 (s .1);
-      moment = ltb-true (e .moment) 320829012000000 (m .0);
-      by = by-is (eqb depth 0) (e .by) (e .more) (m .1);
+      price = s .price;
+      size-low = s .size-low;
+      size-high = s .size-high;
+      moment = s .moment;
+      by = by-is (eqb depth 0) (e .by) (e .more) (s .by);
     }
 
 -- an entry in range can be written

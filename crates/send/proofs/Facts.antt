@@ -4,19 +4,18 @@ use mathlib.Core.Bool.{Bool, true, false, cond, _&&_, _||_}
 use mathlib.Core.List.{List, [], _∷_}
 use Prim.Native.Nat.{ℕ, _≤_, _<_, _^_}
 use native.Mathlib.Omega.{arith}
-use lib.Dec.{ltb, leb, eqb}
-use lib.IntN.{natAbs}
+use lib.Dec.{leb, eqb}
 use lib.ListN.{length}
-use borrow.Author.Tests.{ltb-true, leb-true}
+use borrow.Author.Tests.{leb-true}
 use Rattle.moment.specs.Moments.{moments}
-use Rattle.orderid.specs.OrderIds.{isId, idBytes}
+use Rattle.orderid.specs.OrderIds.{isId, idBytes, top, full, idSound}
 use Rattle.book.specs.Canonical.{All, heldIn}
 use Rattle.book.specs.declared.Entry.{Entry}
 use Rattle.pen.specs.Entries.{Writable}
 use Rattle.board.specs.Board.{at, noInst}
-use Rattle.board.specs.Ranges.{within, idFine, momentFine, orderFine, ordersFine, entryFine}
+use Rattle.board.specs.Ranges.{within, mostId, mostOrders, idFine, ordersFine, byFine, entryFine}
 use Rattle.board.specs.Sound.{SoundInst}
-use Rattle.board.proofs.Tested.{both, three, four, within-true}
+use Rattle.board.proofs.Tested.{both, three, four, within-true, entry-sound}
 use Rattle.board.proofs.Each.{each-at}
 use Rattle.store.specs.Meaning.{bookAt, instAt, boardOf, boardAt, loaded}
 use Rattle.store.proofs.Decode.{at-board, insts-length}
@@ -27,25 +26,21 @@ use Rattle.send.specs.Send.{argumentsFine}
 
 -- ---- an entry in range can be written
 
-by-lt : (t : Bool) (by more : ℕ) → cond t (orderFine by more) (ordersFine by more) ≡ true → by < 10 ^ 18
-by-lt true by more h =
-    let p = both (within 1 6161234432565770 by) (eqb more 0 || (leb 65545047154955 by && leb more 6161234432565770)) h in
-    omega (arith, within-true 1 6161234432565770 by (p .0) .1)
-by-lt false by more h =
-    let p = both (within 1 65535 by) (eqb more 0) h in
-    omega (arith, within-true 1 65535 by (p .0) .1)
+by-lt : (depth by more : ℕ) → byFine depth by more ≡ true → by < 10 ^ 18
+by-lt depth by more = go (eqb depth 0)
+  where
+    go : (t : Bool) → cond t (idSound by more) (ordersFine by more) ≡ true → by < 10 ^ 18
+    go true h =
+        let p = both (within 1 top by) (eqb more 0 || (leb full by && leb more top)) h in
+        omega (arith, within-true 1 top by (p .0) .1)
+    go false h =
+        let p = both (within 1 mostOrders by) (eqb more 0) h in
+        omega (arith, within-true 1 mostOrders by (p .0) .1)
 
 writable : (depth : ℕ) (e : Entry) → entryFine depth e ≡ true → Writable e
-unfolding entryFine
 writable depth e h =
-    let by = cond (eqb depth 0) (orderFine (e .by) (e .more)) (ordersFine (e .by) (e .more)) in
-    let p = four (ltb (natAbs (e .price)) 10000000000000000) (within 1 999999999999 (e .size)) (momentFine (e .moment)) by h in
-    record {
-      price = ltb-true (natAbs (e .price)) 10000000000000000 (p .0);
-      size = omega (arith, within-true 1 999999999999 (e .size) (p .1) .1);
-      by = by-lt (eqb depth 0) (e .by) (e .more) (p .3);
-      moment = ltb-true (e .moment) moments (p .2);
-    }
+    let s = entry-sound depth e h in
+    record { price = s .price; size = omega (arith, s .size-high); by = by-lt depth (e .by) (e .more) (s .by); moment = s .moment }
 
 all-writable : (depth : ℕ) (l : List Entry) → All (λ e. entryFine depth e ≡ true) l → All Writable l
 all-writable depth [] h = tt
@@ -54,7 +49,7 @@ all-writable depth (e ∷ l) h = (writable depth e (h .0), all-writable depth l 
 -- ---- the arguments
 
 pub record Fine (id : ℕ) (sender target : List ℕ) (k m : ℕ) : Type 0 where
-  pub who : id ≤ 999999999999999999
+  pub who : id ≤ mostId
   pub from : length sender ≤ 16
   pub to : length target ≤ 16
   pub turn : k ≤ m
@@ -70,7 +65,7 @@ fine id sender target k m h =
     let p = four (idFine id) (isId sender) (isId target) (leb 1 k && (leb k m && leb m 16)) h in
     let q = three (leb 1 k) (leb k m) (leb m 16) (p .3) in
     record {
-      who = within-true 1 999999999999999999 id (p .0) .1;
+      who = within-true 1 mostId id (p .0) .1;
       from = id-short sender (p .1);
       to = id-short target (p .2);
       turn = leb-true k m (q .1);

@@ -19,7 +19,7 @@ use Rattle.heading.specs.declared.Heading.{Heading}
 use Rattle.board.specs.Board.{Inst, Queued, Board, noInst, anyWaiting}
 use Rattle.board.specs.Sound.{SoundInst, Sound}
 use Rattle.board.proofs.Each.{each-at}
-use Rattle.store.specs.Layout.{idOf, reasonOf, bidsOf, offersOf, slotOf}
+use Rattle.store.specs.Layout.{layoutNumber, idOf, reasonOf, bidsOf, offersOf, slotOf}
 use Rattle.store.specs.Meaning.{headingAt, headingOf, bookAt, instAt, queuedAt, boardOf, boardAt, recordWords, slotWords, marksOf, loaded, written}
 use Rattle.store.specs.Canon.{Formed, Canon}
 use Rattle.store.proofs.Decode.{inst-is, queue-length}
@@ -49,7 +49,7 @@ module _ (xs : List ℕ) (b : Board) (h : Holds xs b) (few : length (b .insts) �
   heading-back =
       rw (h 1 (omega arith), h 2 (omega arith), h 3 (omega arith), h 4 (omega arith), h 5 (omega arith), h 6 (omega arith), h 7 (omega arith))
 
-  pub layout-back : getD xs 0 0 ≡ 4601
+  pub layout-back : getD xs 0 0 ≡ layoutNumber
   unfolding written
   layout-back = h 0 (omega arith)
 

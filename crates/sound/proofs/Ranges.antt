@@ -9,10 +9,12 @@ use lib.Dec.{ltb, leb, eqb}
 use lib.IntN.{pos, negsuc, natAbs}
 use lib.ListN.{getD}
 use borrow.Author.Tests.{leb-true, leb-false, ltb-true, ltb-false, eqb-true, eqb-false, le-leb, lt-leb, lt-ltb, eq-eqb, ne-eqb}
+use Rattle.price.specs.Price as price
 use Rattle.price.specs.Held.{heldTop, ofHeld}
 use Rattle.price.proofs.Holding.{held-of-held, held-small, small-held}
+use Rattle.orderid.specs.OrderIds.{top, full, idSound}
 use Rattle.cells.specs.Cells.{entryAt, updateAt}
-use Rattle.board.specs.Ranges.{within, momentFine, orderFine, ordersFine, entryFine, noneFine, updateFine}
+use Rattle.board.specs.Ranges.{within, mostOrders, priceFine, momentFine, ordersFine, byFine, entryFine, noneFine, updateFine}
 use Rattle.board.proofs.Tested.{both}
 use Rattle.scan.specs.Scan.{each, allZero, mostOf, fullOf, moreTo, entryScan, updateScan}
 
@@ -33,14 +35,14 @@ and-where false h = refl
 
 -- ---- an entry
 
-price-test : (w : ℕ) → leb w heldTop ≡ ltb (natAbs (ofHeld w)) 10000000000000000
-price-test w = go (leb w heldTop) (ltb (natAbs (ofHeld w)) 10000000000000000) refl refl
+price-test : (w : ℕ) → leb w heldTop ≡ priceFine (ofHeld w)
+price-test w = go (leb w heldTop) (priceFine (ofHeld w)) refl refl
   where
-    go : (s t : Bool) → leb w heldTop ≡ s → ltb (natAbs (ofHeld w)) 10000000000000000 ≡ t → s ≡ t
+    go : (s t : Bool) → leb w heldTop ≡ s → priceFine (ofHeld w) ≡ t → s ≡ t
     go true true p q = refl
-    go true false p q = absurd (omega (arith, small-held w (leb-true w heldTop p), ltb-false (natAbs (ofHeld w)) 10000000000000000 q))
+    go true false p q = absurd (omega (arith, small-held w (leb-true w heldTop p), ltb-false (natAbs (ofHeld w)) price.top q))
     go false true p q =
-        absurd (omega (arith, leb-false w heldTop p, held-small (ofHeld w) (ltb-true (natAbs (ofHeld w)) 10000000000000000 q), held-of-held w))
+        absurd (omega (arith, leb-false w heldTop p, held-small (ofHeld w) (ltb-true (natAbs (ofHeld w)) price.top q), held-of-held w))
     go false false p q = refl
 
 le-zero : (n : ℕ) → leb n 0 ≡ eqb n 0
@@ -51,30 +53,30 @@ le-zero n = go (eqb n 0) refl
     go false e = let q = eqb-false n 0 e in lt-leb n 0 (omega arith)
 
 -- `more` on an order-depth channel
-more-order : (by more : ℕ) → leb more (moreTo 6161234432565770 65545047154955 by) ≡ eqb more 0 || (leb 65545047154955 by && leb more 6161234432565770)
+more-order : (by more : ℕ) → leb more (moreTo top full by) ≡ eqb more 0 || (leb full by && leb more top)
 unfolding moreTo
-more-order by more = go (ltb by 65545047154955) (eqb more 0) refl refl
+more-order by more = go (ltb by full) (eqb more 0) refl refl
   where
-    go : (s t : Bool) → ltb by 65545047154955 ≡ s → eqb more 0 ≡ t → leb more (cond s 0 6161234432565770) ≡ t || (leb 65545047154955 by && leb more 6161234432565770)
+    go : (s t : Bool) → ltb by full ≡ s → eqb more 0 ≡ t → leb more (cond s 0 top) ≡ t || (leb full by && leb more top)
     go true true p q = le-zero more ∙ q
-    go true false p q = le-zero more ∙ q ∙ rw (lt-leb 65545047154955 by (ltb-true by 65545047154955 p))
-    go false true p q = le-leb more 6161234432565770 (omega (arith, eqb-true more 0 q))
-    go false false p q = rw (le-leb 65545047154955 by (ltb-false by 65545047154955 p))
+    go true false p q = le-zero more ∙ q ∙ rw (lt-leb full by (ltb-true by full p))
+    go false true p q = le-leb more top (omega (arith, eqb-true more 0 q))
+    go false false p q = rw (le-leb full by (ltb-false by full p))
 
 -- and on a price-depth one
-more-orders : (by more : ℕ) → within 1 65535 by ≡ true → leb more (moreTo 65535 65536 by) ≡ eqb more 0
+more-orders : (by more : ℕ) → within 1 mostOrders by ≡ true → leb more (moreTo mostOrders 65536 by) ≡ eqb more 0
 unfolding moreTo
-more-orders by more h = rw (lt-ltb by 65536 (omega (arith, leb-true by 65535 (both (leb 1 by) (leb by 65535) h .1)))) (le-zero more)
+more-orders by more h = rw (lt-ltb by 65536 (omega (arith, leb-true by mostOrders (both (leb 1 by) (leb by mostOrders) h .1)))) (le-zero more)
 
-kind-test : (depth by more : ℕ) (m : Bool) → within 1 (mostOf depth) by && (leb more (moreTo (mostOf depth) (fullOf depth) by) && m) ≡ m && cond (eqb depth 0) (orderFine by more) (ordersFine by more)
+kind-test : (depth by more : ℕ) (m : Bool) → within 1 (mostOf depth) by && (leb more (moreTo (mostOf depth) (fullOf depth) by) && m) ≡ m && byFine depth by more
 unfolding mostOf fullOf
 kind-test depth by more m = go (eqb depth 0)
   where
-    go : (t : Bool) → within 1 (cond t 6161234432565770 65535) by && (leb more (moreTo (cond t 6161234432565770 65535) (cond t 65545047154955 65536) by) && m)
-        ≡ m && cond t (orderFine by more) (ordersFine by more)
-    go true = rw (more-order by more) (and-turn (within 1 6161234432565770 by) (eqb more 0 || (leb 65545047154955 by && leb more 6161234432565770)) m)
+    go : (t : Bool) → within 1 (cond t top mostOrders) by && (leb more (moreTo (cond t top mostOrders) (cond t full 65536) by) && m)
+        ≡ m && cond t (idSound by more) (ordersFine by more)
+    go true = rw (more-order by more) (and-turn (within 1 top by) (eqb more 0 || (leb full by && leb more top)) m)
     go false =
-        and-where (within 1 65535 by) (λ e. ap (λ (t : Bool). t && m) (more-orders by more e)) ∙ and-turn (within 1 65535 by) (eqb more 0) m
+        and-where (within 1 mostOrders by) (λ e. ap (λ (t : Bool). t && m) (more-orders by more e)) ∙ and-turn (within 1 mostOrders by) (eqb more 0) m
 
 pub entry-test : (depth : ℕ) (xs : List ℕ) (at : ℕ) → entryScan (mostOf depth) (fullOf depth) xs at ≡ entryFine depth (entryAt xs at)
 unfolding entryScan entryFine

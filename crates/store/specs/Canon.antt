@@ -7,13 +7,14 @@ use lib.ListN.{length, getD}
 use Rattle.book.specs.Canonical.{KeptBook}
 use Rattle.store.specs.Layout.{storeSize, layoutNumber, atLayout, headingUsed}
 use Rattle.store.specs.Meaning.{State, bookAt}
+use Rattle.cells.specs.Cells.{sideSize}
 
 -- No number of f instruments and q queued entries stands at k: none of the heading, none of an id and a reason, none of the
--- 101 of a side, none of the 10 of a queued entry.
+-- numbers of a side, none of the 10 of a queued entry.
 pub record Unused (f q k : ℕ) : Type 0 where
   pub head : k < headingUsed → ⊥
   pub record-of : (i : ℕ) → i < f → 32 + i * 8 ≤ k → k < 34 + i * 8 → ⊥
-  pub side : (j : ℕ) → j < f * 2 → 160 + j * 128 ≤ k → k < 261 + j * 128 → ⊥
+  pub side : (j : ℕ) → j < f * 2 → 160 + j * 128 ≤ k → k < 160 + j * 128 + sideSize → ⊥
   pub slot : (j : ℕ) → j < q → 4256 + j * 11 ≤ k → k < 4266 + j * 11 → ⊥
 
 abbrev pub Spare : ℕ → ℕ → List ℕ → Type 0

@@ -2,10 +2,10 @@
 // heading read and saved, an instrument found, a gap.
 use heading::Heading;
 ghost use mathlib.Core.Path.{_≡_};
-ghost use Prim.Native.Nat.{_≤_, _<_, _^_};
+ghost use Prim.Native.Nat.{_≤_, _<_};
 ghost use lib.ListN.{length, getD};
 ghost use lib.Seq.{sets};
-ghost use Rattle.board.specs.Board.{look, waitingIn};
+ghost use Rattle.board.specs.Board.{look};
 ghost use Rattle.store.specs.Layout.{storeSize, atDepth, atMarks};
 ghost use Rattle.store.specs.Meaning.{headingAt, headWords, st, boardIn};
 ghost use Rattle.store.specs.Steps.{gapS};
@@ -32,6 +32,9 @@ pub const HEARD: usize = 5;
 pub const MARKS: usize = 6;
 
 pub const QUEUED: usize = 7;
+
+// A channel follows at most 16 instruments.
+pub const MOST_INSTS: usize = 16;
 
 // The instruments' records: where the SecurityIDs and the reasons start, and how far apart they stand.
 pub const IDS: usize = 32;
@@ -120,14 +123,6 @@ pub fn find(store: &[u64], h: Heading, id: u64) -> usize
         i += 1;
     }
     n
-}
-
-// How many instruments are Waiting: the ones of the marks.
-pub fn waiting(store: &[u64], h: Heading) -> u32
-    requires { ⌜ (h .followed ≤ 16) × (h .marks < 2 ^ h .followed) ⌝ }
-    ensures { λ r. ⌜ r ≡ waitingIn (boardIn (st h (now (store .entry))) .insts) ⌝ }
-{
-    h.waiting()
 }
 
 // A gap before the number n: all Waiting with empty books, reasons kept, the queue emptied.

@@ -14,7 +14,7 @@ use borrow.Author.Tests.{eq-eqb, ne-eqb}
 use Rattle.book.specs.declared.Side.{Side}
 use Rattle.book.specs.declared.Book.{Book}
 use Rattle.book.specs.Canonical.{Kept, KeptBook, listsIn}
-use Rattle.cells.specs.Cells.{sideAt, sideWords}
+use Rattle.cells.specs.Cells.{sideAt, sideWords, sideSize}
 use Rattle.cells.proofs.Windows.{length-side-words}
 use Rattle.heading.specs.Marks.{marked, withoutMark}
 use Rattle.heading.proofs.Bits.{marked-withoutMark}
@@ -49,11 +49,11 @@ module _ (s : State) (f : Formed s) (i : ℕ) (l : i < s .head .followed) (b : B
   abbrev with-book : List ℕ
   with-book = sets with-bids (offersOf i) (sideWords (b .offers))
 
-  in-bids : Agree (bidsOf i) (bidsOf i + 101) (s .store) with-bids
-  in-bids = agree-sets (s .store) (bidsOf i) (sideWords (b .bids)) 101 (length-side-words (b .bids) (k .bids .full))
+  in-bids : Agree (bidsOf i) (bidsOf i + sideSize) (s .store) with-bids
+  in-bids = agree-sets (s .store) (bidsOf i) (sideWords (b .bids)) sideSize (length-side-words (b .bids) (k .bids .full))
 
-  in-offers : Agree (offersOf i) (offersOf i + 101) with-bids with-book
-  in-offers = agree-sets with-bids (offersOf i) (sideWords (b .offers)) 101 (length-side-words (b .offers) (k .offers .full))
+  in-offers : Agree (offersOf i) (offersOf i + sideSize) with-bids with-book
+  in-offers = agree-sets with-bids (offersOf i) (sideWords (b .offers)) sideSize (length-side-words (b .offers) (k .offers .full))
 
   in-book : Agree (bidsOf i) (bidsOf i + 256) (s .store) with-book
   in-book =

@@ -18,23 +18,10 @@ ghost use Rattle.store.specs.Canon.{Formed};
 ghost use Rattle.store.specs.Answers.{fed};
 ghost use Rattle.taking.specs.Replays.{due, replayB, liveS, takeS, refusalOf, takeShownS, snapS};
 
-// The most places of a side.
-const PLACES: usize = 20;
-
-// What an entry of a W is of.
-const BID: u64 = 0;
-
-const OFFER: u64 = 1;
-
-// Where an update's kind and its entry stand among its numbers.
-const WHAT: usize = 1;
-
-const ENTRY: usize = 4;
-
 // Taken.
 const TAKEN: u64 = 4;
 // Snapshot: not followed.
-const NOT_FOLLOWED: u64 = 5;
+const NOT_OURS: u64 = 5;
 // Snapshot: already Live.
 const ALREADY_LIVE: u64 = 6;
 // S below B.
@@ -127,14 +114,14 @@ fn show(run: &[u64], count: usize, side: u64) -> Side
     while i < count {
         let at = i * cells::UPDATE;
         i += 1;
-        if run[at + WHAT] != side {
+        if run[at + cells::UPDATE_WHAT] != side {
             continue;
         }
-        if PLACES <= n {
+        if book::PLACES <= n {
             n += 1;
             continue;
         }
-        places[n] = cells::load_entry(run, at + ENTRY);
+        places[n] = cells::load_entry(run, at + cells::UPDATE_ENTRY);
         n += 1;
     }
     Side { places, held: n }
@@ -146,7 +133,7 @@ fn refusal(h: Heading, i: usize, last: u64) -> u64
     ensures { λ r. ⌜ r ≡ refusalOf h i last ⌝ }
 {
     if h.followed <= i {
-        return NOT_FOLLOWED;
+        return NOT_OURS;
     }
     if !h.waits(i) {
         return ALREADY_LIVE;
@@ -165,15 +152,15 @@ fn take_shown(store: &mut [u64], h: Heading, i: usize, last: u64, run: &[u64], c
     requires { ⌜ (storeSize ≤ length (now store)) × (h .queued ≤ 256) × (i < 16) × (count * updateSize ≤ length (now run)) ⌝ }
     ensures { λ r. ⌜ fed (r .answer) (st (r .head) (now (store .exit))) ≡ takeShownS i last (updatesIn (now (run .entry)) count) (st h (now (store .entry))) ⌝ }
 {
-    let bids = show(run, count, BID);
-    let offers = show(run, count, OFFER);
-    if PLACES < bids.held {
+    let bids = show(run, count, book::BID);
+    let offers = show(run, count, book::OFFER);
+    if book::PLACES < bids.held {
         return Fed {
             head: h,
             answer: TOO_WIDE,
         };
     }
-    if PLACES < offers.held {
+    if book::PLACES < offers.held {
         return Fed {
             head: h,
             answer: TOO_WIDE,

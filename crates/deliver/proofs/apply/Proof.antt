@@ -8,31 +8,31 @@ use Rattle.deliver.proofs.apply.Tie as tie
 mul-at : tie.Need-mul-at
 mul-at c = search needs
 
-add-change : tie.Need-add-change
-add-change c = search needs
+add-on-side : tie.Need-add-on-side
+add-on-side c = search needs
 
-change-requires : tie.Need-change-requires
-change-requires c κs = search needs
+on-side-requires : tie.Need-on-side-requires
+on-side-requires c κs = search needs
 
 same-length : tie.Need-same-length
 same-length c = search needs
 
 returns : tie.Need-returns
 unfolding applyS
-returns c = rw (eq-eqb _ _ (c .before .before .before .before .if1 .taken)) (c .before .before .change .ensures)
+returns c = rw (eq-eqb _ _ (c .before .before .before .before .if1 .taken)) (c .before .before .on-side .ensures)
 
-add-change-2 : tie.Need-add-change-2
-add-change-2 c = search needs
+add-on-side-2 : tie.Need-add-on-side-2
+add-on-side-2 c = search needs
 
-change-requires-2 : tie.Need-change-requires-2
-change-requires-2 c κs = search needs
+on-side-requires-2 : tie.Need-on-side-requires-2
+on-side-requires-2 c κs = search needs
 
 same-length-2 : tie.Need-same-length-2
 same-length-2 c = search needs
 
 returns-2 : tie.Need-returns-2
 unfolding applyS
-returns-2 c = rw (ne-eqb _ _ (c .before .before .before .before .before .before .if1 .left), eq-eqb _ _ (c .before .before .before .before .if2 .taken)) (c .before .before .change2 .ensures)
+returns-2 c = rw (ne-eqb _ _ (c .before .before .before .before .before .before .if1 .left), eq-eqb _ _ (c .before .before .before .before .if2 .taken)) (c .before .before .on-side2 .ensures)
 
 add-zero-run : tie.Need-add-zero-run
 add-zero-run c = search needs
@@ -52,12 +52,12 @@ apply-spec =
     tie.close
     (tie.spec
     mul-at
-    add-change
-    change-requires
+    add-on-side
+    on-side-requires
     same-length
     returns
-    add-change-2
-    change-requires-2
+    add-on-side-2
+    on-side-requires-2
     same-length-2
     returns-2
     add-zero-run

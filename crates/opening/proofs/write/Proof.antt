@@ -13,6 +13,7 @@ use Rattle.opening.proofs.Written.{length-ids, opens-some, opened-is}
 use borrow.Author.Needs.{needs}
 use Rattle.opening.proofs.write.Statement.{statement}
 use Rattle.opening.proofs.write.Tie as tie
+use Rattle.store.specs.Layout.{layoutNumber}
 
 fresh-requires : tie.Need-fresh-requires
 fresh-requires c κs = opens-some (c .before .before .args .depth) (c .before .before .args .ids .now) (c .before .before .pre .1)
@@ -24,7 +25,7 @@ slice-write-store : tie.Need-slice-write-store
 slice-write-store c = search needs
 
 save-heading-requires : tie.Need-save-heading-requires
-save-heading-requires c κs = omega (arith, simp length-sets at (ap length (c .before .before .before .zero-run .ensures)), length-set (c .before .before .before .zero-run .last .0) 0 4601, c .before .before .before .before .before .before .before .before .pre .0)
+save-heading-requires c κs = omega (arith, simp length-sets at (ap length (c .before .before .before .zero-run .ensures)), length-set (c .before .before .before .zero-run .last .0) 0 layoutNumber, c .before .before .before .before .before .before .before .before .pre .0)
 
 put-ids-requires : tie.Need-put-ids-requires
 put-ids-requires c κs =
@@ -48,8 +49,8 @@ returns c =
     let p = opens-some (a .depth) ids (c .before .before .before .before .before .before .before .before .before .before .before .before .before .before .before .pre .1) in
     c .before .before .put-ids .ensures
     ∙ ap (λ (ys : List ℕ). idsIn ys 0 ids) (c .before .before .before .before .before .before .save-heading .ensures
-    ∙ ap (λ (ys : List ℕ). sets (set ys 0 4601) 1 (headWords (c .before .before .before .before .before .before .before .before .before .before .before .before .fresh .result))) (c .before .before .before .before .before .before .before .before .before .before .zero-run .ensures)
-    ∙ ap (λ (h : Heading). sets (set (sets xs 0 (zeros 7168)) 0 4601) 1 (headWords h)) (c .before .before .before .before .before .before .before .before .before .before .before .before .fresh .ensures))
+    ∙ ap (λ (ys : List ℕ). sets (set ys 0 layoutNumber) 1 (headWords (c .before .before .before .before .before .before .before .before .before .before .before .before .fresh .result))) (c .before .before .before .before .before .before .before .before .before .before .zero-run .ensures)
+    ∙ ap (λ (h : Heading). sets (set (sets xs 0 (zeros 7168)) 0 layoutNumber) 1 (headWords h)) (c .before .before .before .before .before .before .before .before .before .before .before .before .fresh .ensures))
     ∙ opened-is (a .depth) ids xs (c .before .before .before .before .before .before .before .before .before .before .before .before .before .before .before .pre .0) (p .0) (p .1)
 
 pub write-spec : {M : Type 1} → statement M

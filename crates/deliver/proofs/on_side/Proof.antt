@@ -1,11 +1,11 @@
--- `change` meets its contract: a breach leaves the store, and else the side is worked and saved from the first place that it may change.
+-- `on_side` meets its contract: a breach leaves the store, and else the side is worked and saved from the first place that it may change.
 use mathlib.Core.Path.{ap, sym, _∙_}
 use borrow.Author.Needs.{needs}
 use Rattle.book.proofs.Breaches.{no-breach}
 use Rattle.deliver.specs.Gives.{taken}
-use Rattle.deliver.proofs.Changing.{change-refused, change-worked, change-stands}
-use Rattle.deliver.proofs.change.Statement.{statement}
-use Rattle.deliver.proofs.change.Tie as tie
+use Rattle.deliver.proofs.Working.{side-refused, side-worked, side-stands}
+use Rattle.deliver.proofs.on_side.Statement.{statement}
+use Rattle.deliver.proofs.on_side.Tie as tie
 
 load-side-requires : tie.Need-load-side-requires
 load-side-requires c κs = search needs
@@ -20,7 +20,7 @@ returns : tie.Need-returns
 returns c =
     let b = c .before .before .before in
     let x = b .before .before .before in
-    change-refused (x .args .store .now) (x .args .at) (x .args .u) (b .load-side .ensures) (c .before .breach .ensures) (x .pre) (c .if1 .taken)
+    side-refused (x .args .store .now) (x .args .at) (x .args .u) (b .load-side .ensures) (c .before .breach .ensures) (x .pre) (c .if1 .taken)
 
 worked-requires : tie.Need-worked-requires
 worked-requires c κs = search needs
@@ -38,7 +38,7 @@ save-side-from-requires c κs =
     let w = c .before .before .before in
     let l = w .before .before .before .before in
     let x = l .before .before .before in
-    (x .pre, change-stands (x .args .store .now) (x .args .at) (x .args .u) (l .load-side .ensures) (w .worked .ensures) (c .before .first-changed .ensures .0))
+    (x .pre, side-stands (x .args .store .now) (x .args .at) (x .args .u) (l .load-side .ensures) (w .worked .ensures) (c .before .first-changed .ensures .0))
 
 same-length-2 : tie.Need-same-length-2
 same-length-2 c = search needs
@@ -50,10 +50,10 @@ returns-2 c =
     let l = b .before .before in
     let x = l .before .before .before in
     ap (taken 0) (c .before .before .save-side-from .ensures)
-    ∙ change-worked (x .args .store .now) (x .args .at) (x .args .u) (l .load-side .ensures) (b .breach .ensures) (w .before .if1 .left) (w .worked .ensures)
+    ∙ side-worked (x .args .store .now) (x .args .at) (x .args .u) (l .load-side .ensures) (b .breach .ensures) (w .before .if1 .left) (w .worked .ensures)
 
-pub change-spec : {M : Type 1} → statement M
-change-spec =
+pub on-side-spec : {M : Type 1} → statement M
+on-side-spec =
     tie.close
     (tie.spec
     load-side-requires
