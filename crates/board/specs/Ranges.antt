@@ -7,7 +7,7 @@ use lib.IntN.{natAbs}
 use lib.ListN.{length}
 use Rattle.book.specs.declared.Entry.{Entry}
 use Rattle.book.specs.declared.Update.{Update}
-use Rattle.message.specs.Message.{Message, Head, numbered, snapshot, refused, answerOf}
+use Rattle.message.specs.Message.{Message, Head, numbered, snapshot, refused}
 
 -- f of each of a list.
 abbrev pub all : {A : Type 0} → (A → Bool) → List A → Bool
@@ -72,4 +72,4 @@ unfoldable pub messageFine : ℕ → Message → Bool
 messageFine depth (numbered n heard us) =
     within 1 mostNumber n && (momentFine heard && (leb (length us) 64 && all (λ u. idFine (u .who) && updateFine depth u) us))
 messageFine depth (snapshot h us) = headFine h && (leb (length us) 64 && all (shownFine depth) us)
-messageFine depth (refused v) = within 11 14 (answerOf v)
+messageFine depth (refused why) = true

@@ -1,12 +1,8 @@
 // What a message says once it is read: its type's part and its numbers, by value (document 01, "Frame" and "Fields"). The reader
 // answers one of these, and writes the entries of the message as a run of numbers; a board takes both.
 
-// How the reading ended.
-pub enum Verdict {
-    // X, 0, f, y, B: it carries a number and a time, an X entries too
-    Numbered,
-    // W
-    Snapshot,
+// Why a message is not read.
+pub enum Refusal {
     // 11
     BadFrame,
     // 12
@@ -15,6 +11,15 @@ pub enum Verdict {
     BadType,
     // 14
     BadFields,
+}
+
+// How the reading ended.
+pub enum Verdict {
+    // X, 0, f, y, B: it carries a number and a time, an X entries too
+    Numbered,
+    // W
+    Snapshot,
+    Refused(Refusal),
 }
 
 // A message that was read. number is 34 and heard the moment of 52; id, last and loops are 48, 369 and 911 of a W, else 0.

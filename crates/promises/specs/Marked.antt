@@ -13,7 +13,7 @@ use Rattle.frame.specs.Frames.{total}
 use Rattle.book.specs.Rules.{leaves, breach, afterNew, afterThru, afterFrom}
 use Rattle.book.specs.declared.Entry.{Entry}
 use Rattle.message.specs.Message.{refused}
-use Rattle.message.specs.declared.Verdict.the-variants.{BadFields}
+use Rattle.message.specs.declared.Refusal.the-variants.{BadFields}
 use Rattle.board.specs.Board.{Board, Out, opened, at}
 use Rattle.board.specs.Calls.{inst}
 use Rattle.fields.specs.Messages.{messageIn}
