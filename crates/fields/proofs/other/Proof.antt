@@ -19,7 +19,7 @@ breach-requires c κs = search needs
 
 returns : tie.Need-returns
 returns c =
-    leads-as (c .breach .ensures) _ (λ depth. refused-by _ (o-untidy _ (was-untidy _ 268 6 4 6 _ _ (c .before .before .before .walk .ensures) (not-true _ (c .before .if1 .taken)))))
+    leads-as (c .breach .ensures) _ (λ depth. refused-by _ (o-untidy _ (was-untidy _ 268 6 4 6 _ _ (c .before .before .before .walk .ensures .tells) (not-true _ (c .before .if1 .taken)))))
 
 walk-requires-2 : tie.Need-walk-requires-2
 walk-requires-2 c κs = (omega arith, (omega arith, refl))
@@ -29,8 +29,8 @@ breach-requires-2 c κs = search needs
 
 returns-2 : tie.Need-returns-2
 returns-2 c =
-    let p = was-tidy _ 268 6 4 6 _ _ (c .before .before .before .before .before .before .walk .ensures) (not-false _ (c .before .before .before .before .if1 .left)) in
-    leads-as (c .breach2 .ensures) _ (λ depth. refused-by _ (o-untidy-rest _ (left-tagged _ 0) (rw (p .rest) at (was-untidy _ 0 6 0 0 _ _ (c .before .before .before .walk2 .ensures) (not-true _ (c .before .if2 .taken))))))
+    let p = was-tidy _ 268 6 4 6 _ _ (c .before .before .before .before .before .before .walk .ensures .tells) (not-false _ (c .before .before .before .before .if1 .left)) in
+    leads-as (c .breach2 .ensures) _ (λ depth. refused-by _ (o-untidy-rest _ (left-tagged _ 0) (rw (p .rest) at (was-untidy _ 0 6 0 0 _ _ (c .before .before .before .walk2 .ensures .tells) (not-true _ (c .before .if2 .taken))))))
 
 top-x-requires : tie.Need-top-x-requires
 top-x-requires c κs = search needs
@@ -46,7 +46,7 @@ breach-requires-3 c κs = search needs
 
 returns-3 : tie.Need-returns-3
 returns-3 c =
-    let p = was-tidy _ 268 6 4 6 _ _ (c .before .before .before .before .before .before .before .before .before .before .walk .ensures) (not-false _ (c .before .before .before .before .before .before .before .before .if1 .left)) in
+    let p = was-tidy _ 268 6 4 6 _ _ (c .before .before .before .before .before .before .before .before .before .before .walk .ensures .tells) (not-false _ (c .before .before .before .before .before .before .before .before .if1 .left)) in
     leads-as (c .breach3 .ensures) _ (λ depth. refused-by _ (o-no-top _ (sym (top-x-same 6 _ _ _ (omega arith) (p .holds)) ∙ no-top _ (sym (c .before .before .before .top-x .ensures) ∙ c .before .enum-told .given .1))))
 
 alone-requires : tie.Need-alone-requires
@@ -54,8 +54,8 @@ alone-requires c κs = search needs
 
 returns-4 : tie.Need-returns-4
 returns-4 c =
-    let p = was-tidy _ 268 6 4 6 _ _ (c .before .before .before .before .before .before .before .before .before .before .before .walk .ensures) (not-false _ (c .before .before .before .before .before .before .before .before .before .if1 .left)) in
-    let q = was-tidy _ 0 6 0 0 _ _ (c .before .before .before .before .before .before .before .before .walk2 .ensures) (not-false _ (c .before .before .before .before .before .before .if2 .left)) in
+    let p = was-tidy _ 268 6 4 6 _ _ (c .before .before .before .before .before .before .before .before .before .before .before .walk .ensures .tells) (not-false _ (c .before .before .before .before .before .before .before .before .before .if1 .left)) in
+    let q = was-tidy _ 0 6 0 0 _ _ (c .before .before .before .before .before .before .before .before .walk2 .ensures .tells) (not-false _ (c .before .before .before .before .before .before .if2 .left)) in
     let t = is-top-x _ (sym (top-x-same 6 _ _ _ (omega arith) (p .holds)) ∙ a-top _ (sym (c .before .before .before .before .top-x .ensures) ∙ c .before .before .t .given .1)) in
     leads-as (c .alone .ensures) _ (λ depth. o-is _ (left-tagged _ 0) (p .tidy) (rw (p .rest) at (q .tidy)) _ t)
 

@@ -18,7 +18,7 @@ breach-requires c κs = search needs
 
 returns : tie.Need-returns
 returns c =
-    leads-as (c .breach .ensures) _ (λ depth. refused-by _ (w-untidy depth _ (was-untidy _ 268 21 4 11 _ _ (c .before .before .before .walk .ensures) (not-true _ (c .before .if1 .taken)))))
+    leads-as (c .breach .ensures) _ (λ depth. refused-by _ (w-untidy depth _ (was-untidy _ 268 21 4 11 _ _ (c .before .before .before .walk .ensures .tells) (not-true _ (c .before .if1 .taken)))))
 
 top-w-requires : tie.Need-top-w-requires
 top-w-requires c κs = search needs
@@ -34,7 +34,7 @@ breach-requires-2 c κs = search needs
 
 returns-2 : tie.Need-returns-2
 returns-2 c =
-    let p = was-tidy _ 268 21 4 11 _ _ (c .before .before .before .before .before .before .before .walk .ensures) (not-false _ (c .before .before .before .before .before .if1 .left)) in
+    let p = was-tidy _ 268 21 4 11 _ _ (c .before .before .before .before .before .before .before .walk .ensures .tells) (not-false _ (c .before .before .before .before .before .if1 .left)) in
     leads-as (c .breach2 .ensures) _ (λ depth. refused-by _ (w-no-top depth _ (sym (top-w-same _ _ _ (p .holds)) ∙ no-top _ (sym (c .before .before .before .top-w .ensures) ∙ c .before .enum-told .given .1))))
 
 group-requires : tie.Need-group-requires
@@ -42,7 +42,7 @@ group-requires c κs = fair-w _ _ (is-top-w _ (a-top _ (sym (c .before .before .
 
 returns-3 : tie.Need-returns-3
 returns-3 c =
-    let p = was-tidy _ 268 21 4 11 _ _ (c .before .before .before .before .before .before .before .before .walk .ensures) (not-false _ (c .before .before .before .before .before .before .if1 .left)) in
+    let p = was-tidy _ 268 21 4 11 _ _ (c .before .before .before .before .before .before .before .before .walk .ensures .tells) (not-false _ (c .before .before .before .before .before .before .if1 .left)) in
     let t = is-top-w _ (sym (top-w-same _ _ _ (p .holds)) ∙ a-top _ (sym (c .before .before .before .before .top-w .ensures) ∙ c .before .before .t .given .1)) in
     leads-as (c .group .ensures) _ (λ depth. w-is depth _ (p .tidy) _ t _ (p .rest))
 
