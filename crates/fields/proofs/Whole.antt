@@ -108,7 +108,7 @@ module _ (depth : ℕ) (s : List ℕ) where
     -- no outline
     pub no-outline : ((kind from : ℕ) → outlineOf s ≡ Framed.Is kind from → ⊥) → length ys ≡ length xs
         → Reads (told (messageIn depth s)) r xs ys
-    no-outline h l = reads-as (refused-reads (refusalOf (frameOf s)) xs ys r q l) (refusal-is (λ k f e. absurd (h k f (outlined s e))))
+    no-outline h l = reads-as (refused-reads (refusalOf (frameOf s)) xs ys r q l) (refusal-is (λ k f e. absurd (h k f (outlined s k f e))))
 
     -- an outline, and a body that is refused
     pub body-refused : {kind from : ℕ} {p : Reading} → outlineOf s ≡ Framed.Is kind from
@@ -117,7 +117,7 @@ module _ (depth : ℕ) (s : List ℕ) where
       where
         none-of : (k f : ℕ) → frameOf s ≡ Framed.Is k f → bodyAs k f ≡ none
         none-of k f e =
-            let same : Framed.Is kind from ≡ Framed.Is k f = sym o ∙ outlined s e in
+            let same : Framed.Is kind from ≡ Framed.Is k f = sym o ∙ outlined s k f e in
             let a : kind ≡ k = cc in
             let b : from ≡ f = cc in
             rw (← a, ← b) (unsaid depth kind (left (inner from) 0) h v)
@@ -128,4 +128,4 @@ module _ (depth : ℕ) (s : List ℕ) where
   body-read {kind} {from} o h v =
       let fs = left (inner from) 0 in
       let well = typed-well fs depth kind (said depth kind fs h v .1) in
-      reads-as h (body-is (outline s o .frame (ap isSome (unbroken (inner from) 0 (well .unbroken)))))
+      reads-as h (body-is (outline s kind from o .frame (ap isSome (unbroken (inner from) 0 (well .unbroken)))))

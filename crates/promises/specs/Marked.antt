@@ -20,7 +20,7 @@ use Rattle.fields.specs.Messages.{messageIn}
 use Rattle.feed.specs.Feeding.{fed}
 use Rattle.quote.specs.Quotes.{given, quoteAt, quoteNumber}
 use Rattle.quote.specs.declared.Quoted.{Quoted}
-use Rattle.frame.proofs.Marked.{before-ten}
+use Rattle.frame.specs.Marked.{before-ten}
 use Rattle.samples.specs.Messages.{point-alone, eight-decimals, first, second, third, at-1, at-2, at-4}
 use Rattle.samples.specs.Says.{bid-2, offer-3}
 

@@ -20,13 +20,13 @@ returns : tie.Need-returns
 returns c = no-outline _ _ (c .refusal .ensures) (λ kind from e. no-frame _ (c .before .match .keys2) kind from (c .before .before .outline .ensures ∙ e)) refl
 
 sub-end : tie.Need-sub-end
-sub-end c = let o = outline _ (sym (c .before .before .before .outline .ensures) ∙ c .before .kind .given .1) in omega (arith, o .long)
+sub-end c = let o = outline _ _ _ (sym (c .before .before .before .outline .ensures) ∙ c .before .kind .given .1) in omega (arith, o .long)
 
 sub-body : tie.Need-sub-body
-sub-body c = let o = outline _ (sym (c .before .before .before .outline .ensures) ∙ c .before .kind .given .1) in omega (arith, o .inside)
+sub-body c = let o = outline _ _ _ (sym (c .before .before .before .outline .ensures) ∙ c .before .kind .given .1) in omega (arith, o .inside)
 
 part-body-start : tie.Need-part-body-start
-part-body-start c = let o = outline _ (sym (c .before .before .before .outline .ensures) ∙ c .before .kind .given .1) in omega (arith, o .inside)
+part-body-start c = let o = outline _ _ _ (sym (c .before .before .before .outline .ensures) ∙ c .before .kind .given .1) in omega (arith, o .inside)
 
 part-body-end : tie.Need-part-body-end
 part-body-end c = search needs
