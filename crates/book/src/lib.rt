@@ -10,6 +10,9 @@ ghost use Rattle.book.specs.Sides.{noEntry, noSide, noBook, pad, breachO
 // The most places of a side; the arrays below have this many.
 pub const PLACES: usize = 20;
 
+// The greatest SecurityID: 48 has at most 18 digits.
+pub const MOST_ID: u64 = 999999999999999999;
+
 // What an entry is of: a bid,
 pub const BID: u64 = 0;
 

@@ -1,6 +1,9 @@
 // What a message says once it is read: its type's part and its numbers, by value (document 01, "Frame" and "Fields"). The reader
 // answers one of these, and writes the entries of the message as a run of numbers; a board takes both.
 
+// 34, 369 and 911 are at most this.
+pub const MOST_NUMBER: u64 = 4294967295;
+
 // Why a message is not read.
 pub enum Refusal {
     // 11
