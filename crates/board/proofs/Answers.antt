@@ -9,13 +9,14 @@ use lib.ListN.{length, length-map}
 use borrow.Author.Tests.{le-ltb, lt-leb}
 use Rattle.book.specs.declared.Update.{Update}
 use Rattle.message.specs.Message.{numbered, snapshot, refused}
+use Rattle.message.specs.declared.Refusal.the-variants.{BadFrame, BadSum, BadType, BadFields}
 use Rattle.book.proofs.Tests.{by-test}
 use Rattle.board.specs.Board.{Board, Out, anyWaiting, look}
 use Rattle.board.specs.Count.{mostQueued, aimed, joining, overflows, countBy, count, cleared, numberBy, number}
 use Rattle.board.specs.Snapshot.{shown}
 use Rattle.board.specs.Feed.{feed}
 use Rattle.board.specs.Calls.{isCounted, changes}
-use Rattle.board.specs.Ranges.{within, messageFine}
+use Rattle.board.specs.Ranges.{within}
 use Rattle.board.specs.Laws.{RefusalsStay, AnswersInTable, GapsAnswerOne}
 use Rattle.board.proofs.Cases.{count-is, number-is, snap-is, take-is}
 use Rattle.board.proofs.Tested.{is-within}
@@ -45,21 +46,24 @@ refusals-stay (numbered n heard us) b =
 refusals-stay (snapshot h us) b =
     snap-is (Stays b) (h .id) (h .last) (shown us) b (λ _ _ _ _. refl)
     (take-is (Stays b) (look (h .id) (b .insts)) (h .last) (shown us) b (λ _ _ e. absurd (true≢false e)) (λ _ _ e. absurd (true≢false e)))
-refusals-stay (refused v) b = λ _. refl
+refusals-stay (refused why) b = λ _. refl
 
 -- The table
 
 pub answers-in-table : AnswersInTable
-unfolding feed messageFine
-answers-in-table (numbered n heard us) b f =
+unfolding feed
+answers-in-table (numbered n heard us) b =
     let vs = map (aimed (b .insts)) us in
     number-is (λ o. leb (o .answer) 3 ≡ true) n heard vs b (λ _ _. refl) (λ _. count-answer (λ a. leb a 3 ≡ true) 0 n heard vs b refl refl)
     (λ _. count-answer (λ a. leb a 3 ≡ true) 1 n heard vs (cleared n b) refl refl)
-answers-in-table (snapshot h us) b f =
+answers-in-table (snapshot h us) b =
     let P : Out → Type 0 = λ o. within 4 10 (o .answer) ≡ true in
     snap-is P (h .id) (h .last) (shown us) b (λ a lo hi. is-within 4 10 a (omega arith) (omega arith))
     (take-is P (look (h .id) (b .insts)) (h .last) (shown us) b (λ _ _. refl) (λ _ _. refl))
-answers-in-table (refused v) b f = f
+answers-in-table (refused BadFrame) b = refl
+answers-in-table (refused BadSum) b = refl
+answers-in-table (refused BadType) b = refl
+answers-in-table (refused BadFields) b = refl
 
 -- A gap
 

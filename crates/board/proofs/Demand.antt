@@ -61,7 +61,7 @@ module _ (ms : List Message) (d : ℕ) where
     fair (fed (snapshot h us)) b right = λ a j.
         let q = sym (right a j) ∙ unbroken never (h .last) .1 in
         cc
-    fair (fed (refused v)) b right = tt
+    fair (fed (refused why)) b right = tt
     fair (aside a) b right = tt
 
     all-fair : (cs : List Call) (b : Board) → Throughout (Right ms d) cs b → Throughout (Fair d (entriesAt ms d) streamBook) cs b

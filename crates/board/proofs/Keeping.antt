@@ -251,7 +251,7 @@ feed-sound (numbered n heard us) b s f =
 feed-sound (snapshot h us) b s f =
     let p = three (headFine h) (leb (length us) 64) (all (shownFine (b .depth)) us) f in
     snap-sound (h .id) (h .last) us b s (all-each (shownFine (b .depth)) (λ u. shownFine (b .depth) u ≡ true) (λ u k. k) us (p .2))
-feed-sound (refused v) b s f = s
+feed-sound (refused why) b s f = s
 
 -- Opening takes the depth kind and 1 to 16 distinct SecurityIDs
 

@@ -178,7 +178,7 @@ module _ (d : ℕ) (s : ℕ → List Update) (t : ℕ → Lists) (i : ℕ) where
           sym (look-found (h .id) (b .insts) (rw e inside))
           ∙ ap (λ (k : ℕ). getD (b .insts) k noInst .id) (e ∙ sym found)
           ∙ look-found d (b .insts) (rw found inside)
-  call-holds truth (fed (refused v)) b found inside fair g = g
+  call-holds truth (fed (refused why)) b found inside fair g = g
   call-holds truth (aside a) b found inside fair g = g
 
   calls-hold : Truth s t → (cs : List Call) (b : Board) → look d (b .insts) ≡ i → i < length (b .insts) → Throughout (Fair d s t) cs b

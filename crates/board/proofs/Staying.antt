@@ -61,7 +61,7 @@ same-feed (snapshot h us) b =
     let i = look (h .id) (b .insts) in
     snap-is (λ o. Same (o .board) b) (h .id) (h .last) (shown us) b (λ _ _ _. same b)
     (take-is (λ o. Same (o .board) b) i (h .last) (shown us) b (λ c _. same-put i _ b refl) (λ r _. same-put i _ b refl))
-same-feed (refused v) b = same b
+same-feed (refused why) b = same b
 
 pub same-call : (c : Call) (b : Board) → Same (called c b .board) b
 same-call (fed m) b = same-feed m b

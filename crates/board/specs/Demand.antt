@@ -7,7 +7,7 @@ use lib.ListN.{length, getD}
 use Rattle.book.specs.Rules.{Lists, empty, Outcome, leaves}
 use Rattle.book.specs.declared.Update.{Update}
 use Rattle.message.specs.Message.{Message, numbered, snapshot, refused}
-use Rattle.message.specs.declared.Verdict.the-variants.{BadFrame}
+use Rattle.message.specs.declared.Refusal.the-variants.{BadFrame}
 use Rattle.board.specs.Board.{Board, opened}
 use Rattle.board.specs.Snapshot.{shown, andThen, run}
 use Rattle.board.specs.Feed.{feed}
@@ -28,7 +28,7 @@ NumberedFromOne ms = (k : ℕ) → k < length ms → (heard : ℕ) × (us : List
 abbrev pub entriesIn : Message → List Update
 entriesIn (numbered n heard us) = us
 entriesIn (snapshot h us) = []
-entriesIn (refused v) = []
+entriesIn (refused why) = []
 
 -- The stream's entries for d in its message number n.
 abbrev pub entriesAt : List Message → ℕ → ℕ → List Update
@@ -53,7 +53,7 @@ IsOf ms m = (k : ℕ) × (k < length ms) × (messageAt ms k ≡ m)
 abbrev pub Right : List Message → ℕ → Call → Board → Type 0
 Right ms d (fed (numbered n heard us)) b = isCounted (feed (numbered n heard us) b .answer) ≡ true → IsOf ms (numbered n heard us)
 Right ms d (fed (snapshot h us)) b = feed (snapshot h us) b .answer ≡ 4 → h .id ≡ d → bookAt ms d (h .last) ≡ leaves (shown us)
-Right ms d (fed (refused v)) b = Unit {0}
+Right ms d (fed (refused why)) b = Unit {0}
 Right ms d (aside a) b = Unit {0}
 
 -- Demand 3: whenever d, which the stream never breaks, is Live, its book is the stream's at H.
@@ -74,7 +74,7 @@ Truth s t = (n : ℕ) (b : Lists) → run (s (suc n)) (t n) ≡ leaves b → b �
 abbrev pub Fair : ℕ → (ℕ → List Update) → (ℕ → Lists) → Call → Board → Type 0
 Fair d s t (fed (numbered n heard us)) b = isCounted (feed (numbered n heard us) b .answer) ≡ true → mine d us ≡ s n
 Fair d s t (fed (snapshot h us)) b = feed (snapshot h us) b .answer ≡ 4 → h .id ≡ d → shown us ≡ t (h .last)
-Fair d s t (fed (refused v)) b = Unit {0}
+Fair d s t (fed (refused why)) b = Unit {0}
 Fair d s t (aside a) b = Unit {0}
 
 -- Whenever d is Live, its book is the true one at H.

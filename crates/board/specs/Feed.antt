@@ -8,4 +8,4 @@ use Rattle.board.specs.Snapshot.{shown, snap}
 unfoldable pub feed : Message → Board → Out
 feed (numbered n heard us) b = number n heard (map (aimed (b .insts)) us) b
 feed (snapshot h us) b = snap (h .id) (h .last) (shown us) b
-feed (refused v) b = out (answerOf v) b
+feed (refused why) b = out (answerOf why) b

@@ -79,10 +79,10 @@ SnapshotKeepsDate =
 abbrev pub answersTo : Message → ℕ → Bool
 answersTo (numbered n heard us) a = leb a 3
 answersTo (snapshot h us) a = within 4 10 a
-answersTo (refused v) a = within 11 14 a
+answersTo (refused why) a = within 11 14 a
 
 abbrev pub AnswersInTable : Type 0
-AnswersInTable = (m : Message) (b : Board) → messageFine (b .depth) m ≡ true → answersTo m (feed m b .answer) ≡ true
+AnswersInTable = (m : Message) (b : Board) → answersTo m (feed m b .answer) ≡ true
 
 -- 1 and 3 can't meet: at most 64 entries join the empty queue of a gap.
 abbrev pub GapsAnswerOne : Type 0

@@ -1,3 +1,4 @@
+pub mod Ids
 pub mod Rules
 pub mod Sides
 pub mod Canonical

@@ -4,11 +4,15 @@ ghost use mathlib.Core.Path.{_≡_};
 ghost use mathlib.Core.List.{_∷_, _++_};
 ghost use Prim.Native.Nat.{_+_, _≤_};
 ghost use lib.ListN.{take, drop};
+ghost use Rattle.book.specs.Ids.{idFine};
 ghost use Rattle.book.specs.Rules.{mostPlaces};
 ghost use Rattle.book.specs.Sides.{noEntry, noSide, noBook, pad, breachOf, firstChanged, sideStep, bookStep};
 
 // The most places of a side; the arrays below have this many.
 pub const PLACES: usize = 20;
+
+// The greatest SecurityID: 48 has at most 18 digits.
+pub const MOST_ID: u64 = 999999999999999999;
 
 // What an entry is of: a bid,
 pub const BID: u64 = 0;
@@ -79,6 +83,13 @@ pub struct Done {
 pub struct Turn {
     pub book: Book,
     pub reason: u64,
+}
+
+// Whether a number is a SecurityID.
+pub fn is_id(id: u64) -> bool
+    ensures { λ r. ⌜ r ≡ idFine id ⌝ }
+{
+    (1 <= id) & (id <= MOST_ID)
 }
 
 // The entry of an unused place.

@@ -168,4 +168,4 @@ pub feed-within : (m : Message) (s : State) → Formed s → Within s (feedS m s
 unfolding feedS
 feed-within (numbered n heard us) s f = number-within n heard (aimedAt s us) s f
 feed-within (snapshot h us) s f = snap-within (h .id) (h .last) (aimedAt s us) s f
-feed-within (refused v) s f = agree-none 0 7168 (s .store)
+feed-within (refused why) s f = agree-none 0 7168 (s .store)

@@ -22,13 +22,13 @@ unfolding feedS feed
 feed-board (numbered n heard us) s f = number-board n heard (aimedAt s us) s f
 feed-board (snapshot h us) s f =
     snap-board (h .last) (aimedAt s us) s f (h .id) ∙ ap (λ (l : Lists). snap (h .id) (h .last) l (boardIn s)) (shown-aimed (boardIn s .insts) us)
-feed-board (refused v) s f = refl
+feed-board (refused why) s f = refl
 
 pub feed-canon : (m : Message) (s : State) → Canon s → Canon (feedS m s .state)
 unfolding feedS
 feed-canon (numbered n heard us) s k = number-canon n heard (aimedAt s us) s k
 feed-canon (snapshot h us) s k = snap-canon (h .id) (h .last) (aimedAt s us) s k
-feed-canon (refused v) s k = k
+feed-canon (refused why) s k = k
 
 -- a call that leaves what a message leaves, where the reading says that message
 pub feeds : {m n : Message} {s : State} {a : ℕ} {t : State} → m ≡ n → Canon s → fed a t ≡ feedS n s → Feeds m s a t

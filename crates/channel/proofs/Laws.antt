@@ -7,11 +7,11 @@ use native.Mathlib.Omega.{arith}
 use lib.Dec.{leb}
 use lib.ListN.{length, take, drop, take-append-drop}
 use borrow.Author.Tests.{leb-true}
-use Rattle.message.specs.Message.{Message, numbered, snapshot, refused, answerOf}
+use Rattle.message.specs.Message.{Message, numbered, snapshot, refused}
 use Rattle.board.specs.Board.{Board, Out}
 use Rattle.board.specs.Feed.{feed}
 use Rattle.board.specs.Ranges.{all, within, mostNumber, idFine, momentFine, updateFine, shownFine, headFine, messageFine}
-use Rattle.board.proofs.Tested.{three, four, within-true}
+use Rattle.board.proofs.Tested.{three, four}
 use Rattle.board.proofs.Keeping.{feed-sound}
 use Rattle.store.specs.Layout.{storeSize}
 use Rattle.store.specs.Meaning.{State, boardAt, loaded, saved, written}
@@ -29,7 +29,7 @@ unfolding messageFine
 fine-is-fair depth (numbered n heard us) e =
     leb-true (length us) 64 (four (within 1 mostNumber n) (momentFine heard) (leb (length us) 64) (all (λ u. idFine (u .who) && updateFine depth u) us) e .2)
 fine-is-fair depth (snapshot h us) e = leb-true (length us) 64 (three (headFine h) (leb (length us) 64) (all (shownFine depth) us) e .1)
-fine-is-fair depth (refused v) e = within-true 11 14 (answerOf v) e .0
+fine-is-fair depth (refused why) e = tt
 
 -- ---- a sound store
 

@@ -30,7 +30,7 @@ pub record Aims (s : State) (n : ℕ) (xs ys : List ℕ) : Type 0 where
 unfoldable pub feedS : Message → State → FedS
 feedS (numbered n heard us) s = numberS n heard (aimedAt s us) s
 feedS (snapshot h us) s = snapS (h .id) (h .last) (aimedAt s us) s
-feedS (refused v) s = fed (answerOf v) s
+feedS (refused why) s = fed (answerOf why) s
 
 -- What a call leaves: the answer and every number of the store, what they mean, and a store that is canonical again.
 pub record Feeds (m : Message) (s : State) (a : ℕ) (t : State) : Type 0 where

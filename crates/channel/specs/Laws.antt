@@ -14,7 +14,7 @@ use Rattle.store.specs.Meaning.{State, boardAt, loaded, saved, written}
 use Rattle.sound.specs.Sound.{sound}
 use Rattle.channel.specs.Feeds.{Feeds}
 
--- A message in range has at most 64 entries, or is not read for one of 11 to 14.
+-- A message in range has at most 64 entries.
 abbrev pub FineIsFair : Type 0
 FineIsFair = (depth : ℕ) (m : Message) → messageFine depth m ≡ true → Fair m
 

@@ -2,13 +2,14 @@
 // a snapshot taken or refused, and a message that could not be read changes nothing.
 use heading::Heading;
 use message::Reading;
+use message::Refusal;
 use message::Verdict;
 use store::Fed;
 ghost use mathlib.Core.Path.{_≡_};
 ghost use Prim.Native.Nat.{_*_, _≤_};
 ghost use lib.ListN.{length};
 ghost use Rattle.cells.specs.Runs.{updateSize, updatesIn};
-ghost use Rattle.message.specs.Message.{said};
+ghost use Rattle.message.specs.Message.{said, answerOf};
 ghost use Rattle.store.specs.Layout.{storeSize};
 ghost use Rattle.store.specs.Meaning.{st};
 ghost use Rattle.store.specs.Canon.{Canon};
@@ -38,6 +39,18 @@ fn aim(store: &[u64], h: Heading, run: &mut [u64], count: usize)
     }
 }
 
+// The answer number of a message that is not read.
+fn answer_of(why: Refusal) -> u64
+    ensures { λ r. ⌜ r ≡ answerOf why ⌝ }
+{
+    match why {
+        Refusal::BadFrame => BAD_FRAME,
+        Refusal::BadSum => BAD_SUM,
+        Refusal::BadType => BAD_TYPE,
+        Refusal::BadFields => BAD_FIELDS,
+    }
+}
+
 // The message that a reading and the entries in a run say, on the board that the heading and the store are. The entries are
 // aimed where they stand.
 pub fn feed_read(store: &mut [u64], h: Heading, r: Reading, run: &mut [u64]) -> Fed
@@ -51,21 +64,9 @@ pub fn feed_read(store: &mut [u64], h: Heading, r: Reading, run: &mut [u64]) -> 
     match v {
         Verdict::Numbered => count::number(store, h, r.number, r.heard, run, count),
         Verdict::Snapshot => taking::snapshot(store, h, r.id, r.last, run, count),
-        Verdict::BadFrame => Fed {
+        Verdict::Refused(why) => Fed {
             head: h,
-            answer: BAD_FRAME,
-        },
-        Verdict::BadSum => Fed {
-            head: h,
-            answer: BAD_SUM,
-        },
-        Verdict::BadType => Fed {
-            head: h,
-            answer: BAD_TYPE,
-        },
-        Verdict::BadFields => Fed {
-            head: h,
-            answer: BAD_FIELDS,
+            answer: answer_of(why),
         },
     }
 }

@@ -1,5 +1,6 @@
-// The one reader of digits. Every number in a message is read here; its width is a parameter, and one law over the
-// width bounds every field (document 01, "Fields": whole numbers).
+// The reader of digits. Every number in a value is read here; its width is a parameter, and one law over the width bounds
+// every field (document 01, "Fields": whole numbers). A field's tag is read by `frame::tag_at`, which finds the '=' behind
+// it in the same loop; its meaning is `ranged` of the bytes before '=', shown by the laws of this crate.
 ghost use mathlib.Core.Path.{_≡_};
 ghost use Rattle.digits.specs.Digits.{digitsOf, wholeOf, rangedOf};
 

@@ -14,6 +14,7 @@ use Rattle.orderid.specs.OrderIds.{idOf}
 use Rattle.orderid.specs.declared.OrderId.{OrderId}
 use Rattle.moment.specs.Moments.{dateOf, timeOf, momentOf, span, join}
 use Rattle.frame.specs.Frames.{equal}
+use Rattle.book.specs.Ids.{mostId}
 
 module _ {A : Type 0} where
   infixr 10 _>>=_
@@ -76,7 +77,7 @@ identified No rest = No
 identified (Is id) rest = cond rest (Is id) No
 
 unfoldable pub instrumentOf : Values → Number
-instrumentOf v = identified (rangedOf 18 1 999999999999999999 (v 48)) (equal (v 22) (56 ∷ []) && bvmf (v 207))
+instrumentOf v = identified (rangedOf 18 1 mostId (v 48)) (equal (v 22) (56 ∷ []) && bvmf (v 207))
 
 abbrev pub instrumentAt : Values → Option ℕ
 instrumentAt v = number (instrumentOf v)

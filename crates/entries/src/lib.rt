@@ -24,15 +24,8 @@ pub enum Valued {
     No,
 }
 
-// The sorts of 269 that are read: bid, offer, J.
-const OFFER: u64 = 1;
-
-const EMPTY: u64 = 2;
-
+// A sort of 269 that is passed over; the others are book's bid, offer and J.
 const OTHER: u64 = 3;
-
-// Change; the deletes come after it.
-const CHANGE: u64 = 1;
 
 // 269: bid, offer, J, or another sort.
 fn sort(text: &[u8]) -> Number
@@ -46,9 +39,9 @@ fn sort(text: &[u8]) -> Number
         return Number::Is(OTHER);
     }
     match text[0] {
-        48 => Number::Is(0),
-        49 => Number::Is(OFFER),
-        74 => Number::Is(EMPTY),
+        b'0' => Number::Is(book::BID),
+        b'1' => Number::Is(book::OFFER),
+        b'J' => Number::Is(book::J),
         _ => Number::Is(OTHER),
     }
 }
@@ -67,12 +60,8 @@ fn market(text: &[u8]) -> bool
 pub fn instrument(s: &[u8], m: Marks) -> Number
     ensures { λ r. ⌜ r ≡ instrumentOf (marked (now (s .entry)) m) ⌝ }
 {
-    let Number::Is(id) = digits::ranged(
-        tags::value(s, m, tags::INSTRUMENT),
-        18,
-        1,
-        999999999999999999,
-    ) else {
+    let Number::Is(id) = digits::ranged(tags::value(s, m, tags::INSTRUMENT), 18, 1, book::MOST_ID)
+    else {
         return Number::No;
     };
     if !frame::same(tags::value(s, m, tags::SOURCE), b"8") {
@@ -145,7 +134,8 @@ fn book_entry(s: &[u8], depth: u64, side: u64, action: u64, m: Marks) -> Said
     let Number::Is(id) = instrument(s, m) else {
         return Said::Bad;
     };
-    if CHANGE < action {
+    // the deletes come after change
+    if book::CHANGE < action {
         return Said::Is(Update {
             who: id,
             what: side,
@@ -175,8 +165,8 @@ fn empty_book(s: &[u8], m: Marks) -> Said
     };
     Said::Is(Update {
         who: id,
-        what: EMPTY,
-        action: 0,
+        what: book::J,
+        action: book::NEW,
         place: 0,
         entry: book::no_entry(),
     })
@@ -192,10 +182,10 @@ pub fn in_x(s: &[u8], depth: u64, m: Marks) -> Said
     let Number::Is(sort) = sort(tags::value(s, m, tags::SORT)) else {
         return Said::Bad;
     };
-    if sort <= OFFER {
+    if sort <= book::OFFER {
         return book_entry(s, depth, sort, action, m);
     }
-    if sort == EMPTY {
+    if sort == book::J {
         return empty_book(s, m);
     }
     Said::Passed
@@ -214,7 +204,7 @@ fn shown_entry(s: &[u8], depth: u64, id: u64, side: u64, m: Marks) -> Said
     Said::Is(Update {
         who: id,
         what: side,
-        action: 0,
+        action: book::NEW,
         place: place as usize,
         entry: e,
     })
@@ -227,7 +217,7 @@ pub fn in_w(s: &[u8], depth: u64, id: u64, m: Marks) -> Said
     let Number::Is(sort) = sort(tags::value(s, m, tags::SORT)) else {
         return Said::Bad;
     };
-    if sort <= OFFER {
+    if sort <= book::OFFER {
         return shown_entry(s, depth, id, sort, m);
     }
     Said::Passed

@@ -71,12 +71,12 @@ module _ (bytes xs : List ℕ) where
 
     -- 01's table ends at 25
     pub small : a ≤ 25
-    small = rw (left .answer) (go m (answers-in-table m (boardAt xs) fine))
+    small = rw (left .answer) (go m (answers-in-table m (boardAt xs)))
       where
         go : (k : Message) {n : ℕ} → answersTo k n ≡ true → n ≤ 25
         go (numbered j heard us) {n} q = omega (arith, leb-true n 3 q)
         go (snapshot j us) {n} q = omega (arith, leb-true n 10 (both (leb 4 n) (leb n 10) q .1))
-        go (refused v) {n} q = omega (arith, leb-true n 14 (both (leb 11 n) (leb n 14) q .1))
+        go (refused why) {n} q = omega (arith, leb-true n 14 (both (leb 11 n) (leb n 14) q .1))
 
     -- the marks that are counted are the instruments that wait
     pub done : (n : ℕ) → n ≡ markedIn (t .head .marks) 16 → Fed bytes xs (a + 256 * n) (saved t)

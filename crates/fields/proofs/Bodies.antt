@@ -12,8 +12,9 @@ use Rattle.digits.specs.Digits.{rangedOf, wholeOf, digitsOf}
 use Rattle.digits.specs.declared.Number.{Number}
 use Rattle.digits.proofs.Width.{both}
 use Rattle.book.specs.declared.Update.{Update}
-use Rattle.message.specs.Message.{Head, Message, numbered, snapshot, told}
-use Rattle.message.specs.declared.Verdict.the-variants.{Numbered, Snapshot, BadFields}
+use Rattle.message.specs.Message.{Head, Message, numbered, snapshot, refused, told}
+use Rattle.message.specs.declared.Refusal.the-variants.{BadFields}
+use Rattle.message.specs.declared.Verdict.the-variants.{Numbered, Snapshot}
 use Rattle.frame.specs.Fields.{Field}
 use Rattle.frame.specs.Places.{part, fieldAt, left}
 use Rattle.frame.specs.declared.Step.{Step}
@@ -27,7 +28,6 @@ use Rattle.entries.proofs.Same.{instrument-same}
 use Rattle.fields.specs.Messages.{otherOf, groupOf, each, changesOf, headOf, running, firsts, snapshotOf, orBadFields, typedAs}
 use Rattle.fields.specs.Groups.{bareOf, topX, topW, entryIn, ordered, grouped, Fair, counted, answered}
 use Rattle.fields.specs.declared.Top.{Top}
-use Rattle.fields.proofs.Positions.{bare-refused}
 
 -- ---- from 268 on
 counted-by : (depth : ℕ) (t : Top) (n : Number) (gs : List Field)
@@ -123,9 +123,9 @@ module _ (s : List ℕ) (start depth : ℕ) (t : Top) where
     good-count n e = rw (left-on s start l step, e)
 
 -- ---- refusals
-pub refused-by : (o : Option Message) → o ≡ none → bareOf BadFields 0 0 ≡ told (orBadFields o)
+pub refused-by : (o : Option Message) → o ≡ none → told (refused BadFields) ≡ told (orBadFields o)
 unfolding orBadFields
-refused-by o q = rw q (bare-refused BadFields)
+refused-by o q = rw q
 
 not-read : (z : Bool) {A : Type 0} (o : Option A) → o ≡ none → need z o ≡ none
 not-read true o q = q

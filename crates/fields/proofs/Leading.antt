@@ -5,8 +5,9 @@ use mathlib.Core.Option.{some}
 use Prim.Native.Nat.{ℕ}
 use native.Mathlib.Omega.{arith}
 use lib.ListN.{length}
-use Rattle.message.specs.Message.{Told}
+use Rattle.message.specs.Message.{refused, told, Told}
 use Rattle.message.specs.declared.Reading.{Reading}
+use Rattle.message.specs.declared.Refusal.{Refusal}
 use Rattle.message.specs.declared.Verdict.{Verdict}
 use Rattle.cells.proofs.Runs.{no-updates}
 use Rattle.frame.specs.Places.{left}
@@ -45,9 +46,10 @@ alone-leads s v n heard =
     }
 
 -- a refusal leaves no entry
-pub bare-reads : (v : Verdict) (xs ys : List ℕ) (r : Reading) → r ≡ bareOf v 0 0 .reading → length ys ≡ length xs → Reads (bareOf v 0 0) r xs ys
-unfolding bareOf
-bare-reads v xs ys r e l = rw e (record { reading = refl; entries = no-updates ys; size = l })
+pub refused-reads : (why : Refusal) (xs ys : List ℕ) (r : Reading) → r ≡ told (refused why) .reading → length ys ≡ length xs
+    → Reads (told (refused why)) r xs ys
+unfolding told
+refused-reads why xs ys r e l = rw e (record { reading = refl; entries = no-updates ys; size = l })
 
 -- in other words
 pub leads-as : {s : List ℕ} {l : Lead} {f : ℕ → Told} → Leads s l f → (g : ℕ → Told) → ((depth : ℕ) → f depth ≡ g depth) → Leads s l g

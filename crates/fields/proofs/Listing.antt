@@ -13,7 +13,8 @@ use lib.Seq.{sets, length-sets}
 use Rattle.digits.proofs.Width.{both}
 use Rattle.book.specs.declared.Update.{Update}
 use Rattle.message.specs.declared.Reading.{Reading}
-use Rattle.message.specs.declared.Verdict.the-variants.{BadFields}
+use Rattle.message.specs.Message.{refused, told}
+use Rattle.message.specs.declared.Refusal.the-variants.{BadFields}
 use Rattle.cells.specs.Cells.{updateWords, updateAt}
 use Rattle.cells.specs.Runs.{updatesIn}
 use Rattle.cells.proofs.Tables.{length-tab}
@@ -31,12 +32,12 @@ use Rattle.tags.proofs.Tidiness.{fits, fits-test, tidy-one, tidy-more}
 use Rattle.tags.proofs.Walking.{unseen, broken-strays}
 use Rattle.entries.proofs.Same.{x-same, w-same}
 use Rattle.fields.specs.Messages.{nextAfter, firsts}
-use Rattle.fields.specs.Groups.{bareOf, entryIn, entryNext, Fair, grouped, answered}
+use Rattle.fields.specs.Groups.{entryIn, entryNext, Fair, grouped, answered}
 use Rattle.fields.specs.Reads.{runSize, Reads}
 use Rattle.fields.specs.declared.Next.{Next}
 use Rattle.fields.specs.declared.Top.{Top}
 use Rattle.fields.proofs.Positions.{none-answered}
-use Rattle.fields.proofs.Leading.{bare-reads, reads-as}
+use Rattle.fields.proofs.Leading.{refused-reads, reads-as}
 use Rattle.fields.proofs.Grouping.{outside, inside, group-start, at-end, too-few, passed-over, not-there, too-many, begins, goes-on, breaks, starts-none, starts-first, entry-bad, entry-passed, entry-said}
 
 -- all the named tags
@@ -105,9 +106,9 @@ unfolding answered
 group-reads t o xs ys n q l =
     rw q (record { reading = rw (length-tab (λ (i : ℕ). updateAt ys (i * 9)) n); entries = refl; size = l })
 
-pub none-reads : (t : Top) (o : Option (List Update)) (xs ys : List ℕ) (r : Reading) → o ≡ none → r ≡ bareOf BadFields 0 0 .reading
+pub none-reads : (t : Top) (o : Option (List Update)) (xs ys : List ℕ) (r : Reading) → o ≡ none → r ≡ told (refused BadFields) .reading
     → length ys ≡ length xs → Reads (answered t o) r xs ys
-none-reads t o xs ys r q e l = rw q (reads-as (bare-reads BadFields xs ys r e l) (none-answered t))
+none-reads t o xs ys r q e l = rw q (reads-as (refused-reads BadFields xs ys r e l) (none-answered t))
 
 -- ---- where the walk has ended, and whether all is good
 pub record Ended (good : Bool) (o : Option (List Update)) (us : List Update) : Type 0 where

@@ -6,8 +6,9 @@ use native.Mathlib.Omega.{arith}
 use borrow.Author.Tests.{eq-eqb, ne-eqb}
 use Rattle.book.specs.declared.Update.{Update}
 use Rattle.message.specs.Message.{refused, told}
-use Rattle.message.specs.declared.Verdict.{Verdict}
-use Rattle.message.specs.declared.Verdict.the-variants.{BadFields}
+use Rattle.message.specs.declared.Refusal.{Refusal}
+use Rattle.message.specs.declared.Refusal.the-variants.{BadFields}
+use Rattle.message.specs.declared.Verdict.the-variants.{Refused}
 use Rattle.entries.specs.Values.{_>>=_, Values}
 use Rattle.entries.specs.Entries.{entryInX, entryInW}
 use Rattle.fields.specs.Messages.{nextOn}
@@ -61,10 +62,10 @@ a-top none h = let z : _≡_ {A = ℕ} 0 1 = cc in absurd (omega arith)
 a-top (some t) h = cc
 
 -- ---- refusals
-pub bare-refused : (v : Verdict) → bareOf v 0 0 ≡ told (refused v)
+pub bare-refused : (why : Refusal) → bareOf (Refused why) 0 0 ≡ told (refused why)
 unfolding bareOf told
-bare-refused v = refl
+bare-refused why = refl
 
-pub none-answered : (t : Top) → bareOf BadFields 0 0 ≡ answered t none
+pub none-answered : (t : Top) → told (refused BadFields) ≡ answered t none
 unfolding answered
-none-answered t = bare-refused BadFields
+none-answered t = refl

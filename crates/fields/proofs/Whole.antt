@@ -11,8 +11,7 @@ use lib.ListN.{length}
 use Rattle.message.specs.Message.{Message, numbered, snapshot, refused, told}
 use Rattle.message.specs.declared.Reading.{Reading}
 use Rattle.message.specs.declared.Verdict.{Verdict}
-use Rattle.message.specs.declared.Verdict.the-variants.{Numbered, Snapshot, BadFrame, BadSum, BadType, BadFields}
-use Rattle.message.proofs.Verdict as verdict
+use Rattle.message.specs.declared.Verdict.the-variants.{Numbered, Snapshot, Refused}
 use Rattle.frame.specs.Fields.{Field}
 use Rattle.frame.specs.Frames.{frameOf}
 use Rattle.frame.specs.ByPlace.{outlineOf}
@@ -23,11 +22,10 @@ use Rattle.frame.proofs.Messages.{framing, outline, outlined}
 use Rattle.frame.proofs.Walk.{left-whole}
 use Rattle.tags.proofs.Unbroken.{unbroken}
 use Rattle.fields.specs.Messages.{orBadFields, typedAs, messageIn}
-use Rattle.fields.specs.Groups.{bareOf, refusalOf}
+use Rattle.fields.specs.Groups.{refusalOf}
 use Rattle.fields.specs.Reads.{Reads}
-use Rattle.fields.proofs.Leading.{bare-reads, reads-as}
+use Rattle.fields.proofs.Leading.{refused-reads, reads-as}
 use Rattle.fields.proofs.Listing.{cases}
-use Rattle.fields.proofs.Positions.{bare-refused}
 use Rattle.fields.proofs.Bodies.{refused-by}
 use Rattle.fields.proofs.Unbroken.{isRead, typed-well}
 
@@ -36,10 +34,7 @@ use Rattle.fields.proofs.Unbroken.{isRead, typed-well}
 abbrev pub wasRead : Verdict → Bool
 wasRead Numbered = true
 wasRead Snapshot = true
-wasRead BadFrame = false
-wasRead BadSum = false
-wasRead BadType = false
-wasRead BadFields = false
+wasRead (Refused why) = false
 
 -- a message that is not refused was read, and no message was not
 some-read : (m : Message) → isRead m ≡ true → wasRead (told (orBadFields (some m)) .reading .verdict) ≡ true
@@ -51,18 +46,6 @@ some-read (refused v) h = absurd (false≢true h)
 none-read : wasRead (told (orBadFields none) .reading .verdict) ≡ false
 unfolding told orBadFields
 none-read = refl
-
--- one of the variants after the first two
-later : (n : ℕ) → OneOf (2 ∷ 3 ∷ 4 ∷ 5 ∷ []) n → 2 ≤ n
-later n h = cases h (λ p. omega arith) (λ h. cases h (λ p. omega arith) (λ h. cases h (λ p. omega arith) (λ p. omega arith)))
-
-pub unread : (v : Verdict) → OneOf (2 ∷ 3 ∷ 4 ∷ 5 ∷ []) (tagOf verdict.the-type v) → wasRead v ≡ false
-unread Numbered h = let l = later 0 h in absurd (omega arith)
-unread Snapshot h = let l = later 1 h in absurd (omega arith)
-unread BadFrame h = refl
-unread BadSum h = refl
-unread BadType h = refl
-unread BadFields h = refl
 
 -- what was read of fields
 module _ (depth kind : ℕ) (fs : List Field) {r : Reading} {xs ys : List ℕ} (h : Reads (told (orBadFields (typedAs depth kind fs))) r xs ys) where
@@ -111,30 +94,30 @@ module _ (depth : ℕ) (s : List ℕ) where
 
   -- without, or where it says nothing, the message is refused
   refusal-is : ((kind from : ℕ) → frameOf s ≡ Framed.Is kind from → bodyAs kind from ≡ none)
-      → bareOf (refusalOf (frameOf s)) 0 0 ≡ told (messageIn depth s)
+      → told (refused (refusalOf (frameOf s))) ≡ told (messageIn depth s)
   unfolding messageIn
   refusal-is h = go (frameOf s) refl
     where
-      go : (x : Framed) → frameOf s ≡ x → bareOf (refusalOf x) 0 0 ≡ told (messageIn depth s)
+      go : (x : Framed) → frameOf s ≡ x → told (refused (refusalOf x)) ≡ told (messageIn depth s)
       go (Framed.Is kind from) e = refused-by (bodyAs kind from) (h kind from e) ∙ body-is e
-      go Framed.BadFrame e = rw e (bare-refused BadFrame)
-      go Framed.BadSum e = rw e (bare-refused BadSum)
-      go Framed.BadType e = rw e (bare-refused BadType)
+      go Framed.BadFrame e = rw e
+      go Framed.BadSum e = rw e
+      go Framed.BadType e = rw e
 
-  module _ {r : Reading} {xs ys : List ℕ} (q : r ≡ bareOf (refusalOf (frameOf s)) 0 0 .reading) where
+  module _ {r : Reading} {xs ys : List ℕ} (q : r ≡ told (refused (refusalOf (frameOf s))) .reading) where
     -- no outline
     pub no-outline : ((kind from : ℕ) → outlineOf s ≡ Framed.Is kind from → ⊥) → length ys ≡ length xs
         → Reads (told (messageIn depth s)) r xs ys
-    no-outline h l = reads-as (bare-reads (refusalOf (frameOf s)) xs ys r q l) (refusal-is (λ k f e. absurd (h k f (outlined s e))))
+    no-outline h l = reads-as (refused-reads (refusalOf (frameOf s)) xs ys r q l) (refusal-is (λ k f e. absurd (h k f (outlined s k f e))))
 
     -- an outline, and a body that is refused
     pub body-refused : {kind from : ℕ} {p : Reading} → outlineOf s ≡ Framed.Is kind from
         → Reads (told (orBadFields (bodyAs kind from))) p xs ys → wasRead (p .verdict) ≡ false → Reads (told (messageIn depth s)) r xs ys
-    body-refused {kind} {from} o h v = reads-as (bare-reads (refusalOf (frameOf s)) xs ys r q (h .size)) (refusal-is none-of)
+    body-refused {kind} {from} o h v = reads-as (refused-reads (refusalOf (frameOf s)) xs ys r q (h .size)) (refusal-is none-of)
       where
         none-of : (k f : ℕ) → frameOf s ≡ Framed.Is k f → bodyAs k f ≡ none
         none-of k f e =
-            let same : Framed.Is kind from ≡ Framed.Is k f = sym o ∙ outlined s e in
+            let same : Framed.Is kind from ≡ Framed.Is k f = sym o ∙ outlined s k f e in
             let a : kind ≡ k = cc in
             let b : from ≡ f = cc in
             rw (← a, ← b) (unsaid depth kind (left (inner from) 0) h v)
@@ -145,4 +128,4 @@ module _ (depth : ℕ) (s : List ℕ) where
   body-read {kind} {from} o h v =
       let fs = left (inner from) 0 in
       let well = typed-well fs depth kind (said depth kind fs h v .1) in
-      reads-as h (body-is (outline s o .frame (ap isSome (unbroken (inner from) 0 (well .unbroken)))))
+      reads-as h (body-is (outline s kind from o .frame (ap isSome (unbroken (inner from) 0 (well .unbroken)))))

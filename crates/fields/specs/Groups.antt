@@ -8,8 +8,10 @@ use lib.Dec.{eqb}
 use lib.ListN.{length}
 use Rattle.book.specs.declared.Update.{Update}
 use Rattle.message.specs.Message.{Told, refused, told}
+use Rattle.message.specs.declared.Refusal.{Refusal}
+use Rattle.message.specs.declared.Refusal.the-variants.{BadFrame, BadSum, BadType, BadFields}
 use Rattle.message.specs.declared.Verdict.{Verdict}
-use Rattle.message.specs.declared.Verdict.the-variants.{Numbered, Snapshot, BadFrame, BadSum, BadType, BadFields}
+use Rattle.message.specs.declared.Verdict.the-variants.{Numbered, Snapshot}
 use Rattle.digits.specs.Digits.{rangedOf}
 use Rattle.frame.specs.Fields.{Field}
 use Rattle.frame.specs.Places.{left}
@@ -30,7 +32,7 @@ bareOf verdict n heard =
     record { reading = record { verdict = verdict; number = n; heard = heard; id = 0; last = 0; loops = 0; count = 0 }; entries = [] }
 
 -- Why a message is not read: its frame, or else a breach under "Fields".
-abbrev pub refusalOf : Framed → Verdict
+abbrev pub refusalOf : Framed → Refusal
 refusalOf (Framed.Is kind from) = BadFields
 refusalOf Framed.BadFrame = BadFrame
 refusalOf Framed.BadSum = BadSum

@@ -7,7 +7,7 @@ use lib.Dec.{eqb}
 use lib.ListN.{length}
 use Rattle.book.specs.declared.Update.{Update}
 use Rattle.message.specs.Message.{Head, Message, numbered, snapshot, refused}
-use Rattle.message.specs.declared.Verdict.the-variants.{BadFrame, BadSum, BadType, BadFields}
+use Rattle.message.specs.declared.Refusal.the-variants.{BadFrame, BadSum, BadType, BadFields}
 use Rattle.frame.specs.Fields.{Field}
 use Rattle.frame.specs.Frames.{frameOf, bodyOf}
 use Rattle.frame.specs.declared.Framed.{Framed}

@@ -5,7 +5,8 @@
 ghost use mathlib.Core.Path.{_≡_};
 ghost use Prim.Native.Nat.{_≤_, _<_};
 ghost use lib.ListN.{length};
-ghost use Rattle.message.specs.Message.{told};
+ghost use Rattle.message.specs.Message.{refused, told};
+ghost use Rattle.message.specs.declared.Refusal.the-variants.{BadFields};
 ghost use Rattle.frame.specs.Frames.{frameOf};
 ghost use Rattle.frame.specs.Places.{left};
 ghost use Rattle.tags.specs.Slots.{marked};
@@ -18,6 +19,7 @@ use entries::Said;
 use frame::Framed;
 use frame::Step;
 use message::Reading;
+use message::Refusal;
 use message::Verdict;
 use tags::Marks;
 
@@ -82,14 +84,14 @@ pub struct Next {
     pub offer: usize,
 }
 
-// A reading without entries.
-fn bare(verdict: Verdict, number: u64, heard: u64) -> Reading
-    ensures { λ r. ⌜ r ≡ bareOf verdict number heard .reading ⌝ }
+// A message that is not read.
+fn unread(why: Refusal) -> Reading
+    ensures { λ r. ⌜ r ≡ told (refused why) .reading ⌝ }
 {
     Reading {
-        verdict,
-        number,
-        heard,
+        verdict: Verdict::Refused(why),
+        number: 0,
+        heard: 0,
         id: 0,
         last: 0,
         loops: 0,
@@ -264,7 +266,7 @@ fn listed(s: &[u8], start: usize, count: u64, depth: u64, t: Top, run: &mut [u64
         }
     }
     if !good {
-        return bare(Verdict::BadFields, 0, 0);
+        return unread(Refusal::BadFields);
     }
     let verdict = t.verdict;
     Reading {
@@ -299,19 +301,26 @@ fn alone(s: &[u8], verdict: Verdict, number: u64, heard: u64) -> Lead
     }
 }
 
+// A breach under "Fields".
+fn breach(s: &[u8]) -> Lead
+    ensures { λ r. ⌜ Leads (now (s .entry)) r (λ depth. told (refused BadFields)) ⌝ }
+{
+    alone(s, Verdict::Refused(Refusal::BadFields), 0, 0)
+}
+
 // The group from 268 on.
 fn group(s: &[u8], start: usize, t: Top) -> Lead
     requires { ⌜ Fair t ⌝ }
     ensures { λ r. ⌜ Leads (now (s .entry)) r (λ depth. answered t (counted depth t (left (now (s .entry)) start))) ⌝ }
 {
     if s.len() <= start {
-        return alone(s, Verdict::BadFields, 0, 0);
+        return breach(s);
     }
     let Step::Is { tag: _, from, to } = frame::field(s, start) else {
-        return alone(s, Verdict::BadFields, 0, 0);
+        return breach(s);
     };
     let Number::Is(count) = digits::ranged(&s[from..to], 2, 0, 64) else {
-        return alone(s, Verdict::BadFields, 0, 0);
+        return breach(s);
     };
     let at = to + 1;
     Lead { top: t, at, count }
@@ -323,11 +332,11 @@ fn changes(s: &[u8]) -> Lead
 {
     let p = tags::walk(s, 0, COUNT_TAG, tags::NAMED, HEAD, HEAD_X_END);
     if !p.ok {
-        return alone(s, Verdict::BadFields, 0, 0);
+        return breach(s);
     }
     let m = p.marks;
     let Topped::Is(t) = top_x(s, m) else {
-        return alone(s, Verdict::BadFields, 0, 0);
+        return breach(s);
     };
     group(s, p.at, t)
 }
@@ -338,11 +347,11 @@ fn snapshot(s: &[u8]) -> Lead
 {
     let p = tags::walk(s, 0, COUNT_TAG, tags::NAMED, HEAD, HEAD_W_END);
     if !p.ok {
-        return alone(s, Verdict::BadFields, 0, 0);
+        return breach(s);
     }
     let m = p.marks;
     let Topped::Is(t) = top_w(s, m) else {
-        return alone(s, Verdict::BadFields, 0, 0);
+        return breach(s);
     };
     group(s, p.at, t)
 }
@@ -353,15 +362,15 @@ fn other(s: &[u8]) -> Lead
 {
     let p = tags::walk(s, 0, COUNT_TAG, HEAD_X_END, HEAD, HEAD_X_END);
     if !p.ok {
-        return alone(s, Verdict::BadFields, 0, 0);
+        return breach(s);
     }
     let q = tags::walk(s, p.at, NO_TAG, HEAD_X_END, 0, 0);
     if !q.ok {
-        return alone(s, Verdict::BadFields, 0, 0);
+        return breach(s);
     }
     let m = p.marks;
     let Topped::Is(t) = top_x(s, m) else {
-        return alone(s, Verdict::BadFields, 0, 0);
+        return breach(s);
     };
     alone(s, Verdict::Numbered, t.number, t.heard)
 }
@@ -381,13 +390,13 @@ fn typed(s: &[u8], kind: u8) -> Lead
 
 // Why a message is not read: its frame, or else a breach under "Fields".
 fn refusal(s: &[u8]) -> Reading
-    ensures { λ r. ⌜ r ≡ bareOf (refusalOf (frameOf (now (s .entry)))) 0 0 .reading ⌝ }
+    ensures { λ r. ⌜ r ≡ told (refused (refusalOf (frameOf (now (s .entry))))) .reading ⌝ }
 {
     match frame::frame(s) {
-        Framed::BadFrame => bare(Verdict::BadFrame, 0, 0),
-        Framed::BadSum => bare(Verdict::BadSum, 0, 0),
-        Framed::BadType => bare(Verdict::BadType, 0, 0),
-        Framed::Is { kind: _, from: _ } => bare(Verdict::BadFields, 0, 0),
+        Framed::BadFrame => unread(Refusal::BadFrame),
+        Framed::BadSum => unread(Refusal::BadSum),
+        Framed::BadType => unread(Refusal::BadType),
+        Framed::Is { kind: _, from: _ } => unread(Refusal::BadFields),
     }
 }
 
@@ -416,6 +425,6 @@ pub fn read(s: &[u8], depth: u64, run: &mut [u64]) -> Reading
     match v {
         Verdict::Numbered => r,
         Verdict::Snapshot => r,
-        _ => refusal(s),
+        Verdict::Refused(_) => refusal(s),
     }
 }

@@ -7,29 +7,9 @@ use Rattle.digits.specs.Digits.{digitsOf, wholeOf, rangedOf}
 use Rattle.text.specs.Text.{fixed, widthTo, widthOf, decimal}
 use Rattle.frame.specs.Fields.{fieldOf, cut, fieldsOf}
 use Rattle.frame.specs.Bytes.{fieldBytes, bytesOf}
-use Rattle.frame.specs.Frames.{total, frameOf, frameNumber}
+use Rattle.frame.specs.Frames.{total, frameOf}
+use Rattle.frame.specs.Marked.{before-ten, message}
 use Rattle.frame.specs.declared.Framed.{Framed}
-
--- 8=FIX.4.4|9=88|35=W|49=SHED|56=YARD|34=1|52=20250103-13:00:00.000|48=7|22=8|207=BVMF|369=0|911=1|268=0|
-abbrev pub before-ten : List ℕ
-before-ten =
-    56 ∷ 61 ∷ 70 ∷ 73 ∷ 88 ∷ 46 ∷ 52 ∷ 46 ∷ 52 ∷ 1 ∷
-    57 ∷ 61 ∷ 56 ∷ 56 ∷ 1 ∷
-    51 ∷ 53 ∷ 61 ∷ 87 ∷ 1 ∷
-    52 ∷ 57 ∷ 61 ∷ 83 ∷ 72 ∷ 69 ∷ 68 ∷ 1 ∷
-    53 ∷ 54 ∷ 61 ∷ 89 ∷ 65 ∷ 82 ∷ 68 ∷ 1 ∷
-    51 ∷ 52 ∷ 61 ∷ 49 ∷ 1 ∷
-    53 ∷ 50 ∷ 61 ∷ 50 ∷ 48 ∷ 50 ∷ 53 ∷ 48 ∷ 49 ∷ 48 ∷ 51 ∷ 45 ∷ 49 ∷ 51 ∷ 58 ∷ 48 ∷ 48 ∷ 58 ∷ 48 ∷ 48 ∷ 46 ∷ 48 ∷ 48 ∷ 48 ∷ 1 ∷
-    52 ∷ 56 ∷ 61 ∷ 55 ∷ 1 ∷
-    50 ∷ 50 ∷ 61 ∷ 56 ∷ 1 ∷
-    50 ∷ 48 ∷ 55 ∷ 61 ∷ 66 ∷ 86 ∷ 77 ∷ 70 ∷ 1 ∷
-    51 ∷ 54 ∷ 57 ∷ 61 ∷ 48 ∷ 1 ∷
-    57 ∷ 49 ∷ 49 ∷ 61 ∷ 49 ∷ 1 ∷
-    50 ∷ 54 ∷ 56 ∷ 61 ∷ 48 ∷ 1 ∷ []
-
--- the whole message for an empty book
-abbrev pub message : List ℕ
-message = before-ten ++ (49 ∷ 48 ∷ 61 ∷ 48 ∷ 50 ∷ 57 ∷ 1 ∷ [])
 
 size : length message ≡ 110
 size = refl
@@ -43,7 +23,7 @@ unfolding frameOf fieldsOf cut fieldOf rangedOf wholeOf digitsOf bytesOf fieldBy
 frames = refl
 
 -- 10=285 for a sum of 29 is 12
-other-sum : frameNumber (frameOf (before-ten ++ (49 ∷ 48 ∷ 61 ∷ 50 ∷ 56 ∷ 53 ∷ 1 ∷ []))) ≡ 12
+other-sum : frameOf (before-ten ++ (49 ∷ 48 ∷ 61 ∷ 50 ∷ 56 ∷ 53 ∷ 1 ∷ [])) ≡ Framed.BadSum
 unfolding frameOf fieldsOf cut fieldOf rangedOf wholeOf digitsOf bytesOf fieldBytes decimal widthOf widthTo fixed
 other-sum = refl
 
@@ -65,48 +45,48 @@ abbrev ten : ℕ → ℕ → ℕ → List ℕ
 ten a b c = 49 ∷ 48 ∷ 61 ∷ (48 + a) ∷ (48 + b) ∷ (48 + c) ∷ 1 ∷ []
 
 -- no byte is 11
-no-bytes : frameNumber (frameOf []) ≡ 11
+no-bytes : frameOf [] ≡ Framed.BadFrame
 unfolding frameOf
 no-bytes = refl
 
 -- tag 9 = "0" is good digits and a wrong count: 11
 -- 8=FIX.4.4|9=0|35=W|34=1|10=155|
-no-count : frameNumber (frameOf (eight ++ nine (48 ∷ []) ++ type (87 ∷ []) ++ number ++ ten 1 5 5)) ≡ 11
+no-count : frameOf (eight ++ nine (48 ∷ []) ++ type (87 ∷ []) ++ number ++ ten 1 5 5) ≡ Framed.BadFrame
 unfolding frameOf fieldsOf cut fieldOf rangedOf wholeOf digitsOf bytesOf fieldBytes decimal widthOf widthTo fixed
 no-count = refl
 
 -- a leading zero in 9 is 11
 -- 8=FIX.4.4|9=010|35=W|34=1|10=252|
-lead-zero : frameNumber (frameOf (eight ++ nine (48 ∷ 49 ∷ 48 ∷ []) ++ type (87 ∷ []) ++ number ++ ten 2 5 2)) ≡ 11
+lead-zero : frameOf (eight ++ nine (48 ∷ 49 ∷ 48 ∷ []) ++ type (87 ∷ []) ++ number ++ ten 2 5 2) ≡ Framed.BadFrame
 unfolding frameOf fieldsOf cut fieldOf rangedOf wholeOf digitsOf bytesOf fieldBytes decimal widthOf widthTo fixed
 lead-zero = refl
 
 -- a wrong count with a wrong sum is 11, not 12
 -- 8=FIX.4.4|9=9|35=W|34=1|10=000|
-both-wrong : frameNumber (frameOf (eight ++ nine (57 ∷ []) ++ type (87 ∷ []) ++ number ++ ten 0 0 0)) ≡ 11
+both-wrong : frameOf (eight ++ nine (57 ∷ []) ++ type (87 ∷ []) ++ number ++ ten 0 0 0) ≡ Framed.BadFrame
 unfolding frameOf fieldsOf cut fieldOf rangedOf wholeOf digitsOf bytesOf fieldBytes decimal widthOf widthTo fixed
 both-wrong = refl
 
 -- the begin string FIX4.4 is 11
 -- 8=FIX4.4|9=10|35=W|34=1|10=158|
-no-point : frameNumber (frameOf ((56 ∷ 61 ∷ 70 ∷ 73 ∷ 88 ∷ 52 ∷ 46 ∷ 52 ∷ 1 ∷ []) ++ nine (49 ∷ 48 ∷ []) ++ type (87 ∷ []) ++ number ++ ten 1 5 8)) ≡ 11
+no-point : frameOf ((56 ∷ 61 ∷ 70 ∷ 73 ∷ 88 ∷ 52 ∷ 46 ∷ 52 ∷ 1 ∷ []) ++ nine (49 ∷ 48 ∷ []) ++ type (87 ∷ []) ++ number ++ ten 1 5 8) ≡ Framed.BadFrame
 unfolding frameOf fieldsOf cut fieldOf rangedOf wholeOf digitsOf bytesOf fieldBytes decimal widthOf widthTo fixed
 no-point = refl
 
 -- a type that is not ours is 13
 -- 8=FIX.4.4|9=10|35=A|34=1|10=182|
-other-type : frameNumber (frameOf (eight ++ nine (49 ∷ 48 ∷ []) ++ type (65 ∷ []) ++ number ++ ten 1 8 2)) ≡ 13
+other-type : frameOf (eight ++ nine (49 ∷ 48 ∷ []) ++ type (65 ∷ []) ++ number ++ ten 1 8 2) ≡ Framed.BadType
 unfolding frameOf fieldsOf cut fieldOf rangedOf wholeOf digitsOf bytesOf fieldBytes decimal widthOf widthTo fixed
 other-type = refl
 
 -- a type of two bytes is 13
 -- 8=FIX.4.4|9=11|35=WW|34=1|10=036|
-two-bytes : frameNumber (frameOf (eight ++ nine (49 ∷ 49 ∷ []) ++ type (87 ∷ 87 ∷ []) ++ number ++ ten 0 3 6)) ≡ 13
+two-bytes : frameOf (eight ++ nine (49 ∷ 49 ∷ []) ++ type (87 ∷ 87 ∷ []) ++ number ++ ten 0 3 6) ≡ Framed.BadType
 unfolding frameOf fieldsOf cut fieldOf rangedOf wholeOf digitsOf bytesOf fieldBytes decimal widthOf widthTo fixed
 two-bytes = refl
 
 -- a second 35 is no matter of the frame
 -- 8=FIX.4.4|9=10|35=W|35=A|10=221|
-second-type : frameNumber (frameOf (eight ++ nine (49 ∷ 48 ∷ []) ++ type (87 ∷ []) ++ type (65 ∷ []) ++ ten 2 2 1)) ≡ 0
+second-type : frameOf (eight ++ nine (49 ∷ 48 ∷ []) ++ type (87 ∷ []) ++ type (65 ∷ []) ++ ten 2 2 1) ≡ Framed.Is 87 20
 unfolding frameOf fieldsOf cut fieldOf rangedOf wholeOf digitsOf bytesOf fieldBytes decimal widthOf widthTo fixed
 second-type = refl

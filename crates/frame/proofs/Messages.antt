@@ -16,6 +16,7 @@ use Rattle.frame.specs.Bytes.{bytesOf, fair, allFair}
 use Rattle.frame.specs.Frames.{total, isType, typed, frameOf, bodyOf, headed, ended, framed}
 use Rattle.frame.specs.Places.{part, isSome}
 use Rattle.frame.specs.ByPlace.{partsOf, judged, outlineIn, outlineOf, frameIn}
+use Rattle.frame.specs.Laws.{Outline, ChainedIsFrame, FrameIsOutlined}
 use Rattle.frame.specs.declared.Shape.{Shape}
 use Rattle.frame.specs.declared.Framed.{Framed}
 use Rattle.frame.proofs.Well.{Well, type-at, summed-at, chain-well, body-well, fields-well, frame-well, whole-length, inner-length}
@@ -90,15 +91,9 @@ framing s {kind} {from} e = go (frame-cases s)
     go (inr h) = framing-of s e (h .c) (h .body) (h .v) (h .well)
 
 -- ---- what an outline says
-pub record Outline (s : List ℕ) (kind from : ℕ) : Type 0 where
-  pub type : isType kind ≡ true
-  pub long : 7 ≤ length s
-  pub inside : from ≤ length s - 7
-  pub frame : isSome (fieldsOf (part from (length s - 7) s)) ≡ true → frameOf s ≡ Framed.Is kind from
-
-pub outline : (s : List ℕ) {kind from : ℕ} → outlineOf s ≡ Framed.Is kind from → Outline s kind from
+pub outline : ChainedIsFrame
 unfolding outlineOf
-outline s {kind} {from} e = go (partsOf s) refl e
+outline s kind from e = go (partsOf s) refl e
   where
     go : (x : Shape) → partsOf s ≡ x → outlineIn s x ≡ Framed.Is kind from → Outline s kind from
     go Shape.No p h = let z : _≡_ {A = ℕ} 0 1 = cc in absurd (omega arith)
@@ -109,9 +104,9 @@ outline s {kind} {from} e = go (partsOf s) refl e
         record { type = t .1; long = x .long; inside = omega (arith, t .2, x .order); frame = λ c. a-chain s p (rw (← t .2) at c) ∙ h }
 
 -- a message with a good frame has that outline
-pub outlined : (s : List ℕ) {kind from : ℕ} → frameOf s ≡ Framed.Is kind from → outlineOf s ≡ Framed.Is kind from
+pub outlined : FrameIsOutlined
 unfolding outlineOf
-outlined s {kind} {from} e = go (partsOf s) (sym (by-places s) ∙ e)
+outlined s kind from e = go (partsOf s) (sym (by-places s) ∙ e)
   where
     chain : (z : Bool) (r : Framed) → cond z r Framed.BadFrame ≡ Framed.Is kind from → r ≡ Framed.Is kind from
     chain true r h = h

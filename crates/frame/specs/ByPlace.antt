@@ -1,6 +1,6 @@
 -- The frame place by place, as the code reads it: 11 first, then the sum, then the type. `by-places` in proofs/Framing.antt
--- shows that they come to `frameOf`; of these definitions a public contract cites only `outlineOf`, and proofs/Messages.antt
--- shows what it says of `frameOf`. Assumes nothing.
+-- shows that they come to `frameOf`; of these definitions a public contract cites only `outlineOf`, and Laws.antt says how it
+-- comes to `frameOf`. Assumes nothing.
 use Prim.Native.Nat.{ℕ, _+_, _-_, _%_, _<_}
 use mathlib.Core.Path.{_≡_}
 use mathlib.Core.List.{List, [], _∷_}

@@ -92,13 +92,6 @@ chained (some (a ∷ b ∷ c ∷ fs)) = ordered a b c (frontOf fs) (lastOf c fs)
 unfoldable pub frameOf : List ℕ → Framed
 frameOf s = cond (leb 1 (length s) && leb (length s) 8192) (chained (fieldsOf s)) Framed.BadFrame
 
--- the answer's number
-abbrev pub frameNumber : Framed → ℕ
-frameNumber (Framed.Is kind from) = 0
-frameNumber Framed.BadFrame = 11
-frameNumber Framed.BadSum = 12
-frameNumber Framed.BadType = 13
-
 -- ---- what a frame holds
 -- the fields after the first three, but the last
 abbrev pub inside : Option (List Field) → List Field

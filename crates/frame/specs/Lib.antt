@@ -3,3 +3,5 @@ pub mod Bytes
 pub mod Frames
 pub mod Places
 pub mod ByPlace
+pub mod Laws
+pub mod Marked

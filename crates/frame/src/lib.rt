@@ -58,7 +58,7 @@ const MOST_BYTES: usize = 8192;
 // 8=FIX.4.4 and its SOH
 const BEGIN_BYTES: usize = 10;
 // 10=, three digits and SOH
-const TRAILER_BYTES: usize = 7;
+pub const TRAILER_BYTES: usize = 7;
 
 // Where a byte first stands from a place on, or the end: one byte a turn.
 fn find_by_one(s: &[u8], at: usize, x: u8) -> usize

@@ -1,7 +1,6 @@
 -- What is told is said. Assumes nothing.
 use mathlib.Core.Path.{_≡_, refl}
 use native.Mathlib.Omega.{arith}
-use Rattle.message.specs.declared.Verdict.the-variants.{Numbered, Snapshot, BadFrame, BadSum, BadType, BadFields}
 use Rattle.message.specs.Message.{numbered, snapshot, refused, told}
 use Rattle.message.specs.Laws.{ToldIsSaid, ToldFits}
 
@@ -9,15 +8,10 @@ pub told-is-said : ToldIsSaid
 unfolding told
 told-is-said (numbered n heard us) f = refl
 told-is-said (snapshot h us) f = refl
-told-is-said (refused Numbered) f = absurd (omega arith)
-told-is-said (refused Snapshot) f = absurd (omega arith)
-told-is-said (refused BadFrame) f = refl
-told-is-said (refused BadSum) f = refl
-told-is-said (refused BadType) f = refl
-told-is-said (refused BadFields) f = refl
+told-is-said (refused why) f = refl
 
 pub told-fits : ToldFits
 unfolding told
 told-fits (numbered n heard us) f = f
 told-fits (snapshot h us) f = f
-told-fits (refused v) f = omega arith
+told-fits (refused why) f = omega arith

@@ -2,13 +2,13 @@
 use mathlib.Core.Path.{_≡_}
 use Prim.Native.Nat.{ℕ, _≤_}
 use lib.ListN.{length}
-use Rattle.message.specs.Message.{Message, numbered, snapshot, refused, answerOf, told, said}
+use Rattle.message.specs.Message.{Message, numbered, snapshot, refused, told, said}
 
--- A message has at most 64 entries, and one that is not read is 11 to 14.
+-- A message has at most 64 entries.
 abbrev pub Fair : Message → Type 0
 Fair (numbered n heard us) = length us ≤ 64
 Fair (snapshot h us) = length us ≤ 64
-Fair (refused v) = 11 ≤ answerOf v
+Fair (refused why) = Unit {0}
 
 -- A reading that tells a message says it, and has at most 64 entries.
 abbrev pub ToldIsSaid : Type 0

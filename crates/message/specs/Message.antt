@@ -3,9 +3,15 @@ use Prim.Native.Nat.{ℕ}
 use mathlib.Core.List.{List, []}
 use lib.ListN.{length}
 use Rattle.book.specs.declared.Update.{Update}
+use Rattle.message.specs.declared.Refusal.{Refusal}
+use Rattle.message.specs.declared.Refusal.the-variants.{BadFrame, BadSum, BadType, BadFields}
 use Rattle.message.specs.declared.Verdict.{Verdict}
-use Rattle.message.specs.declared.Verdict.the-variants.{Numbered, Snapshot, BadFrame, BadSum, BadType, BadFields}
+use Rattle.message.specs.declared.Verdict.the-variants.{Numbered, Snapshot, Refused}
 use Rattle.message.specs.declared.Reading.{Reading}
+
+-- 34, 369 and 911 end here.
+abbrev pub mostNumber : ℕ
+mostNumber = 4294967295
 
 -- What stands before the entries of a W: 34, 52's moment, 48, 369, 911.
 pub record Head : Type 0 where
@@ -20,12 +26,11 @@ pub data Message : Type 0 where
   numbered : ℕ → ℕ → List Update → Message
   -- W: its head, and its bids and offers in order
   snapshot : Head → List Update → Message
-  refused : Verdict → Message
+  -- not read, and why
+  refused : Refusal → Message
 
 -- Document 01's answer numbers of a message that is not read.
-abbrev pub answerOf : Verdict → ℕ
-answerOf Numbered = 0
-answerOf Snapshot = 0
+abbrev pub answerOf : Refusal → ℕ
 answerOf BadFrame = 11
 answerOf BadSum = 12
 answerOf BadType = 13
@@ -52,17 +57,15 @@ told (snapshot h us) =
       };
       entries = us;
     }
-told (refused v) = record { reading = record { verdict = v; number = 0; heard = 0; id = 0; last = 0; loops = 0; count = 0 }; entries = [] }
+told (refused why) =
+    record { reading = record { verdict = Refused why; number = 0; heard = 0; id = 0; last = 0; loops = 0; count = 0 }; entries = [] }
 
 -- The message that a reading and its entries say.
 abbrev pub saidBy : Verdict → Reading → List Update → Message
 saidBy Numbered r us = numbered (r .number) (r .heard) us
 saidBy Snapshot r us =
     snapshot (record { number = r .number; heard = r .heard; id = r .id; last = r .last; loops = r .loops }) us
-saidBy BadFrame r us = refused BadFrame
-saidBy BadSum r us = refused BadSum
-saidBy BadType r us = refused BadType
-saidBy BadFields r us = refused BadFields
+saidBy (Refused why) r us = refused why
 
 abbrev pub said : Reading → List Update → Message
 said r us = saidBy (r .verdict) r us

@@ -22,7 +22,7 @@ fn ids_fine(ids: &[u64]) -> bool
 {
     let mut i = 0usize;
     while i < ids.len() {
-        if !message::is_id(ids[i]) {
+        if !book::is_id(ids[i]) {
             return false;
         }
         i += 1;

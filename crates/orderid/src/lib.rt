@@ -1,11 +1,11 @@
 // Order ids, 1 to 16 bytes of 33 to 126 each (document 01, "Fields": 37), held as two numbers. Each is a word of up to 8
-// bytes in a base of 94 digits without a zero, so that the words of up to 8 bytes are the numbers 1 to TOP without a
-// hole, and those of exactly 8 bytes its upper end, from FULL on. A held id is sound by comparisons alone.
+// bytes in a base of 94 digits without a zero, so that the words of up to 8 bytes are the numbers from 1 without a hole,
+// and those of exactly 8 bytes the upper end of them. So a held id is sound by comparisons alone (`idSound`).
 ghost use mathlib.Core.Path.{_≡_};
 ghost use Prim.Native.Nat.{_+_, _%_, _^_, _≤_, _<_};
 ghost use lib.ListN.{length};
 ghost use Rattle.text.specs.Text.{Wrote};
-ghost use Rattle.orderid.specs.OrderIds.{idOf, idText, idSound, packedOf};
+ghost use Rattle.orderid.specs.OrderIds.{idOf, idText, packedOf};
 ghost use Rattle.orderid.specs.Words.{wordOf, bytesIn};
 
 // An id that was read, or none.
@@ -19,12 +19,6 @@ enum Word {
     Is(u64),
     No,
 }
-
-// The greatest word, 8 bytes of 126.
-const TOP: u64 = 6161234432565770;
-
-// The least word of 8 bytes, 8 bytes of 33.
-const FULL: u64 = 65545047154955;
 
 fn wide(x: u8) -> u64
     ensures { λ r. ⌜ r ≡ x ⌝ }
@@ -77,13 +71,6 @@ pub fn read(text: &[u8]) -> OrderId
         return OrderId::No;
     };
     OrderId::Is(a, b)
-}
-
-// Whether two numbers hold an id.
-pub fn sound(a: u64, b: u64) -> bool
-    ensures { λ r. ⌜ r ≡ idSound a b ⌝ }
-{
-    (1 <= a) & (a <= TOP) & ((b == 0) | ((FULL <= a) & (b <= TOP)))
 }
 
 // A word's bytes in one number, the first lowest, zeros above the last.

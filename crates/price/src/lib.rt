@@ -70,6 +70,7 @@ fn amount(text: &[u8]) -> Number
     Number::Is(w * UNIT + f * scale(n - q))
 }
 
+// An amount without a minus.
 fn above(m: u64) -> i64
     requires { ⌜ m < 2 ^ 63 ⌝ }
     ensures { λ r. ⌜ r ≡ pos m ⌝ }
@@ -77,11 +78,12 @@ fn above(m: u64) -> i64
     m as i64
 }
 
+// An amount after a minus: its negation.
 fn below(m: u64) -> i64
     requires { ⌜ m < 2 ^ 63 ⌝ }
     ensures { λ r. ⌜ r ≡ negℤ (pos m) ⌝ }
 {
-    0 - (m as i64)
+    -(m as i64)
 }
 
 // Tag 270: an optional minus, then an amount.
@@ -135,7 +137,7 @@ fn magnitude(p: i64) -> u64
     ensures { λ r. ⌜ r ≡ natAbs p ⌝ }
 {
     if p < 0 {
-        return (0 - p) as u64;
+        return (-p) as u64;
     }
     p as u64
 }

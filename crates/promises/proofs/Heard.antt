@@ -109,7 +109,7 @@ module _ (ms : List Message) where
         go false true f = streamed n heard us _ (f (count-counted 0 n heard vs b refl)) (count-at 0 n heard vs b)
         go false false f = streamed n heard us _ (f (count-counted 1 n heard vs (cleared n b) refl)) (count-at 1 n heard vs (cleared n b))
     step d (fed (snapshot s us)) b r h = still b _ (snap-at (s .id) (s .last) (shown us) b) h
-    step d (fed (refused v)) b r h = h
+    step d (fed (refused why)) b r h = h
     step d (aside a) b r h = h
 
     heard-along : (d : ℕ) (cs : List Call) (b : Board) → Throughout (Right ms d) cs b → Heard b → Heard (calls cs b)

@@ -13,14 +13,14 @@ use Rattle.frame.specs.Frames.{total}
 use Rattle.book.specs.Rules.{leaves, breach, afterNew, afterThru, afterFrom}
 use Rattle.book.specs.declared.Entry.{Entry}
 use Rattle.message.specs.Message.{refused}
-use Rattle.message.specs.declared.Verdict.the-variants.{BadFields}
+use Rattle.message.specs.declared.Refusal.the-variants.{BadFields}
 use Rattle.board.specs.Board.{Board, Out, opened, at}
 use Rattle.board.specs.Calls.{inst}
 use Rattle.fields.specs.Messages.{messageIn}
 use Rattle.feed.specs.Feeding.{fed}
 use Rattle.quote.specs.Quotes.{given, quoteAt, quoteNumber}
 use Rattle.quote.specs.declared.Quoted.{Quoted}
-use Rattle.frame.proofs.Marked.{before-ten}
+use Rattle.frame.specs.Marked.{before-ten}
 use Rattle.samples.specs.Messages.{point-alone, eight-decimals, first, second, third, at-1, at-2, at-4}
 use Rattle.samples.specs.Says.{bid-2, offer-3}
 

@@ -10,7 +10,7 @@ use Rattle.calendar.proofs.Dates.{date-back}
 use Rattle.moment.specs.Moments.{span, dateText, clockText, timeText, momentText}
 use Rattle.frame.specs.Bytes.{fieldBytes, bytesOf}
 use Rattle.frame.specs.Frames.{framed}
-use Rattle.frame.proofs.Marked.{message}
+use Rattle.frame.specs.Marked.{message}
 use Rattle.book.specs.Rules.{empty}
 use Rattle.writer.specs.Snapshot.{Letter, sideFields, snapshotFields, snapshotBytes}
 

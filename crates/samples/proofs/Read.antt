@@ -17,7 +17,7 @@ use Rattle.tags.specs.Tags.{has, stands, tidy, upTo, past, parts, allTidy, look
 use Rattle.entries.specs.Values.{bvmf, instrumentOf, sortOf, byOf, momentIn}
 use Rattle.entries.specs.Entries.{valuesOf, bookEntry, emptyBook, entryInX, shownEntry, entryInW}
 use Rattle.message.specs.Message.{Message, numbered, snapshot, refused}
-use Rattle.message.specs.declared.Verdict.the-variants.{BadFields}
+use Rattle.message.specs.declared.Refusal.the-variants.{BadFields}
 use Rattle.fields.specs.Messages.{otherOf, groupOf, each, changesOf, headOf, running, snapshotOf, orBadFields, typedAs, messageIn}
 use Rattle.samples.specs.Messages.{empty-book, point-alone, eight-decimals, first, second, third, at-1, at-2, at-4}
 use Rattle.samples.specs.Says.{bid-1, bid-2, first-says, second-says, third-says, shows}

@@ -3,17 +3,20 @@ use mathlib.Core.Path.{_≡_, refl, sym, ap, _∙_}
 use mathlib.Core.List.{List, [], _∷_, _++_}
 use mathlib.Core.Bool.{Bool, true, false, cond, not, _&&_, _||_, true≢false, false≢true}
 use mathlib.Core.Option.{none, some}
-use Prim.Native.Nat.{ℕ, _+_, _≤_, _<_}
-use borrow.Author.Tests.{lt-ltb, eqb-true, eqb-false, not-true}
+use Prim.Native.Nat.{ℕ, _+_, _-_, _≤_, _<_}
+use native.Mathlib.Omega.{arith}
+use borrow.Author.Tests.{lt-ltb, eqb-true, eqb-false, eq-eqb, ne-eqb, not-true}
 use lib.Dec.{ltb, leb, eqb}
-use lib.ListN.{length, getD, set}
+use lib.ListN.{length, getD, set, length-append, length-take, length-drop}
 use Rattle.digits.proofs.Width.{both}
 use Rattle.frame.specs.Fields.{Field, field}
+use Rattle.frame.specs.Bytes.{fieldBytes}
 use Rattle.frame.specs.Places.{part, fieldAt, broken, left}
 use Rattle.frame.specs.declared.Step.{Step}
 use Rattle.frame.proofs.Walk.{walked, left-on, left-no, found}
 use Rattle.tags.specs.Tags.{tidy, upTo, onward}
 use Rattle.tags.specs.Slots.{slotOf, below, between, noMarks, strays, breaks, Holds, splitAt, Tells}
+use Rattle.tags.specs.Walks.{sohAt, markAt, walkOn, Walk}
 use Rattle.tags.specs.declared.Marks.{Marks}
 use Rattle.tags.specs.declared.Place.{Place}
 use Rattle.tags.proofs.Marking.{none-held, held-more}
@@ -51,30 +54,49 @@ module _ (s : List ℕ) (start stop named low high : ℕ) where
     pub holds : Holds named s m passed
     pub tidy : tidy (below named) (between low high) passed ≡ true
     pub same : splitAt stop named low high whole ≡ splitFrom stop named low high passed (left s at)
+    pub exact : walkOn stop named low high start noMarks whole ≡ walkOn stop named low high at m (left s at)
 
   pub walk-start : (m : Marks) → m ≡ noMarks → named ≤ 21 → high ≤ 21 → breaks stop named low high ≡ true → Walks m start
   walk-start m q n g b =
       let h : Holds named s m [] = rw q (none-held named s n) in
-      record { few = n; top = g; breaks = b; passed = []; holds = h; tidy = tidy-nil (below named) (between low high); same = refl }
+      record {
+        few = n;
+        top = g;
+        breaks = b;
+        passed = [];
+        holds = h;
+        tidy = tidy-nil (below named) (between low high);
+        same = refl;
+        exact = rw q;
+      }
 
   module _ (m : Marks) (at : ℕ) (w : Walks m at) where
-    pub tells-end : length s ≤ at → Tells named s (record { ok = true; at = at; marks = m }) (splitAt stop named low high whole)
+    pub tells-end : length s ≤ at → Walk s start stop named low high (record { ok = true; at = at; marks = m })
+    unfolding walkOn
     tells-end l =
-        rw (w .same, walked s at l, split-end stop named low high (w .passed) (w .tidy))
-        (record { ok = refl; holds = w .holds; rest = walked s at l })
+        record {
+          exact = sym (w .exact ∙ ap (walkOn stop named low high at m) (walked s at l));
+          tells = rw (w .same, walked s at l, split-end stop named low high (w .passed) (w .tidy))
+              (record { ok = refl; holds = w .holds; rest = walked s at l });
+        }
 
     -- a field that strays
-    strayed : (f : Field) (fs : List Field) → left s at ≡ f ∷ fs → (f .tag ≡ stop → ⊥) → fits (below named) (between low high) (w .passed) f ≡ false
-        → Tells named s (record { ok = false; at = at; marks = m }) (splitAt stop named low high whole)
-    strayed f fs q other h = rw (w .same, q, split-stray stop named low high (w .passed) (w .tidy) f fs other h) refl
+    strayed : (f : Field) (fs : List Field) → left s at ≡ f ∷ fs → (f .tag ≡ stop → ⊥)
+        → strays (slotOf (f .tag)) named low high (getD (m .to) (slotOf (f .tag)) 0) ≡ true
+        → Walk s start stop named low high (record { ok = false; at = at; marks = m })
+    unfolding walkOn
+    strayed f fs q other h =
+        let no : fits (below named) (between low high) (w .passed) f ≡ false = fits-test s m (w .passed) named low high (w .holds) (w .few) (w .top) f ∙ ap not h in
+        record {
+          exact = sym (w .exact ∙ rw (q, ne-eqb (f .tag) stop other, h));
+          tells = rw (w .same, q, split-stray stop named low high (w .passed) (w .tidy) f fs other no) refl;
+        }
 
-    pub tells-broken : at < length s → fieldAt s at ≡ Step.No
-        → Tells named s (record { ok = false; at = at; marks = m }) (splitAt stop named low high whole)
+    pub tells-broken : at < length s → fieldAt s at ≡ Step.No → Walk s start stop named low high (record { ok = false; at = at; marks = m })
     tells-broken l e =
         let b = both (not (eqb 8 stop)) (strays 0 named low high 0) (w .breaks) in
-        let h = broken-strays named low high (getD (m .to) (slotOf 8) 0) (b .1) in
         strayed broken [] (left-no s at l e) (eqb-false 8 stop (not-true (eqb 8 stop) (b .0)))
-        (fits-test s m (w .passed) named low high (w .holds) (w .few) (w .top) broken ∙ ap not h)
+        (broken-strays named low high (getD (m .to) (slotOf 8) 0) (b .1))
 
     module _ (tag from to : ℕ) (l : at < length s) (step : fieldAt s at ≡ Step.Is tag from to) where
       abbrev f : Field
@@ -83,31 +105,48 @@ module _ (s : List ℕ) (start stop named low high : ℕ) where
       on : left s at ≡ f ∷ left s (to + 1)
       on = left-on s at l step
 
-      pub tells-stop : tag ≡ stop → Tells named s (record { ok = true; at = at; marks = m }) (splitAt stop named low high whole)
+      -- where it ends, and where its value starts
+      ends : sohAt at f ≡ to
+      ends = let p = found s at step in omega (arith, p .low, p .some, p .high, simp (length-append, length-drop) at (ap length (p .same)))
+
+      starts : sohAt at f - length (f .text) ≡ from
+      starts = let p = found s at step in rw ends (simp (length-take, length-drop) (omega (arith, p .some, p .high)))
+
+      pub tells-stop : tag ≡ stop → Walk s start stop named low high (record { ok = true; at = at; marks = m })
+      unfolding walkOn
       tells-stop q =
-          rw (w .same, on, split-stop stop named low high (w .passed) (w .tidy) f (left s (to + 1)) q)
-          (record { ok = refl; holds = w .holds; rest = on })
+          record {
+            exact = sym (w .exact ∙ rw (on, eq-eqb tag stop q));
+            tells = rw (w .same, on, split-stop stop named low high (w .passed) (w .tidy) f (left s (to + 1)) q)
+                (record { ok = refl; holds = w .holds; rest = on });
+          }
 
       module _ (other : tag ≡ stop → ⊥) (k : ℕ) (slot : k ≡ slotOf tag) where
-        fit : fits (below named) (between low high) (w .passed) f ≡ not (strays k named low high (getD (m .to) k 0))
-        fit = rw slot (fits-test s m (w .passed) named low high (w .holds) (w .few) (w .top) f)
-
         pub tells-stray : strays k named low high (getD (m .to) k 0) ≡ true
-            → Tells named s (record { ok = false; at = at; marks = m }) (splitAt stop named low high whole)
-        tells-stray h = strayed f (left s (to + 1)) on other (fit ∙ ap not h)
+            → Walk s start stop named low high (record { ok = false; at = at; marks = m })
+        tells-stray h = strayed f (left s (to + 1)) on other (rw slot at h)
+
+        marked-so : markAt at f m ≡ record { from = set (m .from) k from; to = set (m .to) k to }
+        marked-so = rw (starts, ends, slot)
 
         pub walk-more : strays k named low high (getD (m .to) k 0) ≡ false → k ≤ 21
             → Walks (record { from = set (m .from) k from; to = set (m .to) k to }) (to + 1)
+        unfolding walkOn
         walk-more h b =
             let p = found s at step in
+            let i : strays (slotOf tag) named low high (getD (m .to) (slotOf tag) 0) ≡ false = rw slot at h in
+            let fit : fits (below named) (between low high) (w .passed) f ≡ true = fits-test s m (w .passed) named low high (w .holds) (w .few) (w .top) f ∙ ap not i in
             record {
               few = w .few;
               top = w .top;
               breaks = w .breaks;
               passed = w .passed ++ (f ∷ []);
               holds = held-more named s m (w .passed) (w .few) (w .holds) tag k from to slot b (unseen k named low high (getD (m .to) k 0) h) (p .some) (p .high);
-              tidy = tidy-more (below named) (between low high) (w .passed) f (w .tidy) (fit ∙ ap not h);
+              tidy = tidy-more (below named) (between low high) (w .passed) f (w .tidy) fit;
               same = w .same ∙ ap (splitFrom stop named low high (w .passed)) on ∙ split-more stop named low high (w .passed) (w .tidy) f (left s (to + 1)) other;
+              exact = w .exact ∙ rw (on, ne-eqb tag stop other, i)
+                  (ap (λ (n : ℕ). walkOn stop named low high (n + 1) (markAt at f m) (left s (to + 1))) ends
+                  ∙ ap (λ (j : Marks). walkOn stop named low high (to + 1) j (left s (to + 1))) marked-so);
             }
 
 -- ---- what a walk's answer says of the place

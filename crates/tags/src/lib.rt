@@ -5,14 +5,12 @@ ghost use mathlib.Core.Bool.{true};
 ghost use mathlib.Core.Path.{_≡_};
 ghost use Prim.Native.Nat.{_≤_, _<_};
 ghost use lib.ListN.{getD};
-ghost use Rattle.frame.specs.Places.{left};
-ghost use Rattle.tags.specs.Slots.{slotOf, noMarks, textAt, strays, breaks, splitAt, Tells};
+ghost use Rattle.tags.specs.Slots.{slotOf, noMarks, textAt, strays, breaks};
+ghost use Rattle.tags.specs.Walks.{Walk};
 use frame::Step;
 
-// The slots, in an order in which what may stand in a place is one run of them. First 8, 9, 35 and 10, which may stand
-// in no place.
-pub const FRAME: usize = 4;
-
+// The slots, in an order in which what may stand in a place is one run of them. Slots 0 to 3 are those of 8, 9, 35 and
+// 10, which may stand in no place.
 pub const SEQ: usize = 4;
 
 pub const SENT: usize = 5;
@@ -132,7 +130,7 @@ pub fn value(s: &[u8], m: Marks, k: usize) -> &[u8]
 // those from low up to high may stand in it. Bytes that are no field breach its rules.
 pub fn walk(s: &[u8], start: usize, stop: u64, named: usize, low: usize, high: usize) -> Place
     requires { ⌜ (named ≤ 21) × ((high ≤ 21) × (breaks stop named low high ≡ true)) ⌝ }
-    ensures { λ r. ⌜ Tells named (now (s .entry)) r (splitAt stop named low high (left (now (s .entry)) start)) ⌝ }
+    ensures { λ r. ⌜ Walk (now (s .entry)) start stop named low high r ⌝ }
 {
     let end = s.len();
     let mut m = no_marks();

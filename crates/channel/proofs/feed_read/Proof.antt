@@ -1,5 +1,5 @@
 -- `feed_read` meets its contract: the entries are aimed, then each verdict has its message. Assumes nothing.
-use mathlib.Core.Path.{_≡_, refl, ap}
+use mathlib.Core.Path.{ap}
 use borrow.Author.Needs.{needs}
 use Rattle.cells.specs.Runs.{updatesIn}
 use Rattle.message.specs.declared.Verdict.{Verdict}
@@ -24,17 +24,11 @@ enum-told-2 c = search needs
 snapshot-requires : tie.Need-snapshot-requires
 snapshot-requires c κs = search needs
 
-enum-told-3 : tie.Need-enum-told-3
-enum-told-3 c = search needs
+enum-known-v : tie.Need-enum-known-v
+enum-known-v c = search needs
 
-enum-told-4 : tie.Need-enum-told-4
-enum-told-4 c = search needs
-
-enum-told-5 : tie.Need-enum-told-5
-enum-told-5 c = search needs
-
-enum-told-6 : tie.Need-enum-told-6
-enum-told-6 c = search needs
+answer-of-requires : tie.Need-answer-of-requires
+answer-of-requires c κs = search needs
 
 same-length : tie.Need-same-length
 same-length c = search needs
@@ -69,48 +63,9 @@ same-length-6 c = search needs
 returns-3 : tie.Need-returns-3
 unfolding feedS
 returns-3 c =
-    let top = c .before .before .before .before .before .before .before .before .before in
-    let says = ap (λ (v : Verdict). saidBy v (top .args .r) (updatesIn (top .args .run .now) (top .args .r .count))) (c .enum-told3 .given .1) in
-    (feeds says (top .pre .0) refl, c .before .before .before .before .aim .ensures)
-
-same-length-7 : tie.Need-same-length-7
-same-length-7 c = search needs
-
-same-length-8 : tie.Need-same-length-8
-same-length-8 c = search needs
-
-returns-4 : tie.Need-returns-4
-unfolding feedS
-returns-4 c =
-    let top = c .before .before .before .before .before .before .before .before .before in
-    let says = ap (λ (v : Verdict). saidBy v (top .args .r) (updatesIn (top .args .run .now) (top .args .r .count))) (c .enum-told4 .given .1) in
-    (feeds says (top .pre .0) refl, c .before .before .before .before .aim .ensures)
-
-same-length-9 : tie.Need-same-length-9
-same-length-9 c = search needs
-
-same-length-10 : tie.Need-same-length-10
-same-length-10 c = search needs
-
-returns-5 : tie.Need-returns-5
-unfolding feedS
-returns-5 c =
-    let top = c .before .before .before .before .before .before .before .before .before in
-    let says = ap (λ (v : Verdict). saidBy v (top .args .r) (updatesIn (top .args .run .now) (top .args .r .count))) (c .enum-told5 .given .1) in
-    (feeds says (top .pre .0) refl, c .before .before .before .before .aim .ensures)
-
-same-length-11 : tie.Need-same-length-11
-same-length-11 c = search needs
-
-same-length-12 : tie.Need-same-length-12
-same-length-12 c = search needs
-
-returns-6 : tie.Need-returns-6
-unfolding feedS
-returns-6 c =
-    let top = c .before .before .before .before .before .before .before .before .before in
-    let says = ap (λ (v : Verdict). saidBy v (top .args .r) (updatesIn (top .args .run .now) (top .args .r .count))) (c .enum-told6 .given .1) in
-    (feeds says (top .pre .0) refl, c .before .before .before .before .aim .ensures)
+    let top = c .before .before .before .before .before .before .before .before .before .before .before in
+    let says = ap (λ (v : Verdict). saidBy v (top .args .r) (updatesIn (top .args .run .now) (top .args .r .count))) (c .before .before .v .given .1) in
+    (feeds says (top .pre .0) (rw (c .answer-of .ensures)), c .before .before .before .before .before .before .aim .ensures)
 
 pub feed-read-spec : {M : Type 1} → statement M
 feed-read-spec =
@@ -121,10 +76,8 @@ feed-read-spec =
     number-requires
     enum-told-2
     snapshot-requires
-    enum-told-3
-    enum-told-4
-    enum-told-5
-    enum-told-6
+    enum-known-v
+    answer-of-requires
     same-length
     same-length-2
     returns
@@ -133,13 +86,4 @@ feed-read-spec =
     returns-2
     same-length-5
     same-length-6
-    returns-3
-    same-length-7
-    same-length-8
-    returns-4
-    same-length-9
-    same-length-10
-    returns-5
-    same-length-11
-    same-length-12
-    returns-6)
+    returns-3)

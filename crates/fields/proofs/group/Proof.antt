@@ -11,11 +11,11 @@ use Rattle.fields.proofs.Bodies.{no-group, torn-count, bad-count, good-
 use Rattle.fields.proofs.group.Statement.{statement}
 use Rattle.fields.proofs.group.Tie as tie
 
-alone-requires : tie.Need-alone-requires
-alone-requires c κs = search needs
+breach-requires : tie.Need-breach-requires
+breach-requires c κs = search needs
 
 returns : tie.Need-returns
-returns c = leads-as (c .alone .ensures) _ (λ depth. none-answered _ ∙ ap (answered _) (sym (no-group _ _ depth _ (c .before .if1 .taken))))
+returns c = leads-as (c .breach .ensures) _ (λ depth. none-answered _ ∙ ap (answered _) (sym (no-group _ _ depth _ (c .before .if1 .taken))))
 
 field-requires : tie.Need-field-requires
 field-requires c κs = search needs
@@ -26,12 +26,12 @@ enum-known-from c = search needs
 enum-told : tie.Need-enum-told
 enum-told c = search needs
 
-alone-requires-2 : tie.Need-alone-requires-2
-alone-requires-2 c κs = search needs
+breach-requires-2 : tie.Need-breach-requires-2
+breach-requires-2 c κs = search needs
 
 returns-2 : tie.Need-returns-2
 returns-2 c =
-    leads-as (c .alone2 .ensures) _ (λ depth. none-answered _ ∙ ap (answered _) (sym (torn-count _ _ depth _ (c .before .before .before .before .if1 .left) (sym (c .before .before .before .field .ensures) ∙ c .before .enum-told .given .1))))
+    leads-as (c .breach2 .ensures) _ (λ depth. none-answered _ ∙ ap (answered _) (sym (torn-count _ _ depth _ (c .before .before .before .before .if1 .left) (sym (c .before .before .before .field .ensures) ∙ c .before .enum-told .given .1))))
 
 sub-ranged : tie.Need-sub-ranged
 sub-ranged c = let f = found _ _ (sym (c .before .before .before .field .ensures) ∙ c .before .from .given .1) in omega (arith, f .some, f .high)
@@ -51,12 +51,12 @@ enum-known-count c = search needs
 enum-told-2 : tie.Need-enum-told-2
 enum-told-2 c = search needs
 
-alone-requires-3 : tie.Need-alone-requires-3
-alone-requires-3 c κs = search needs
+breach-requires-3 : tie.Need-breach-requires-3
+breach-requires-3 c κs = search needs
 
 returns-3 : tie.Need-returns-3
 returns-3 c =
-    leads-as (c .alone3 .ensures) _ (λ depth. none-answered _
+    leads-as (c .breach3 .ensures) _ (λ depth. none-answered _
     ∙ ap (answered _) (sym (bad-count _ _ depth _ _ _ _ (c .before .before .before .before .before .before .before .before .before .if1 .left) (sym (c .before .before .before .before .before .before .before .before .field .ensures) ∙ c .before .before .before .before .before .before .from .given .1) (sym (c .before .before .before .ranged .ensures) ∙ c .before .enum-told2 .given .1))))
 
 add-at : tie.Need-add-at
@@ -79,12 +79,12 @@ pub group-spec : {M : Type 1} → statement M
 group-spec =
     tie.close
     (tie.spec
-    alone-requires
+    breach-requires
     returns
     field-requires
     enum-known-from
     enum-told
-    alone-requires-2
+    breach-requires-2
     returns-2
     sub-ranged
     part-ranged-start
@@ -92,7 +92,7 @@ group-spec =
     ranged-requires
     enum-known-count
     enum-told-2
-    alone-requires-3
+    breach-requires-3
     returns-3
     add-at
     returns-4)

@@ -196,14 +196,14 @@ entries-again-3 c =
     let saved = c .before .before .before .save-update in
     (ended-said _ _ _ _ _ _ _ _ _ _ _ _ _ (c .before .before .before .before .before .before .before .before .before .before .loop .inv) (stopped (c .before .before .before .before .before .before .before .before .before)) _ (said-is _ (sym (c .before .before .before .before .before .before .before .before .entry .ensures) ∙ c .before .before .before .before .before .before .said .given .1)) _ (c .next-after .ensures) _ (saved .ensures), saved .kept .0 ∙ c .before .before .before .before .before .before .before .before .before .before .before .before .before .before .before .before .before .before .before .before .entries .inv .1)
 
-bare-requires : tie.Need-bare-requires Inv-loop μ-loop Inv-entries μ-entries
-bare-requires c κs = search needs
+unread-requires : tie.Need-unread-requires Inv-loop μ-loop Inv-entries μ-entries
+unread-requires c κs = search needs
 
 same-length : tie.Need-same-length Inv-loop μ-loop Inv-entries μ-entries
 same-length c = c .before .before .before .entries .inv .1
 
 returns : tie.Need-returns Inv-loop μ-loop Inv-entries μ-entries
-returns c = none-reads _ _ _ _ _ (ended (c .before .before) .no (not-true _ (c .before .if7 .taken))) (c .bare .ensures) (c .before .before .before .entries .inv .1)
+returns c = none-reads _ _ _ _ _ (ended (c .before .before) .no (not-true _ (c .before .if7 .taken))) (c .unread .ensures) (c .before .before .before .entries .inv .1)
 
 same-length-2 : tie.Need-same-length-2 Inv-loop μ-loop Inv-entries μ-entries
 same-length-2 c = c .before .before .entries .inv .1
@@ -260,7 +260,7 @@ listed-spec =
     next-after-requires
     entries-less-3
     entries-again-3
-    bare-requires
+    unread-requires
     same-length
     returns
     same-length-2

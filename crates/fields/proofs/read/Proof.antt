@@ -3,7 +3,7 @@ use mathlib.Core.Path.{refl, sym, ap, _∙_}
 use native.Mathlib.Omega.{arith}
 use borrow.Author.Needs.{needs}
 use Rattle.frame.proofs.Messages.{outline}
-use Rattle.fields.proofs.Whole.{wasRead, unread, no-frame, no-outline, body-refused, body-read}
+use Rattle.fields.proofs.Whole.{wasRead, no-frame, no-outline, body-refused, body-read}
 use Rattle.fields.proofs.read.Statement.{statement}
 use Rattle.fields.proofs.read.Tie as tie
 
@@ -20,13 +20,13 @@ returns : tie.Need-returns
 returns c = no-outline _ _ (c .refusal .ensures) (λ kind from e. no-frame _ (c .before .match .keys2) kind from (c .before .before .outline .ensures ∙ e)) refl
 
 sub-end : tie.Need-sub-end
-sub-end c = let o = outline _ (sym (c .before .before .before .outline .ensures) ∙ c .before .kind .given .1) in omega (arith, o .long)
+sub-end c = let o = outline _ _ _ (sym (c .before .before .before .outline .ensures) ∙ c .before .kind .given .1) in omega (arith, o .long)
 
 sub-body : tie.Need-sub-body
-sub-body c = let o = outline _ (sym (c .before .before .before .outline .ensures) ∙ c .before .kind .given .1) in omega (arith, o .inside)
+sub-body c = let o = outline _ _ _ (sym (c .before .before .before .outline .ensures) ∙ c .before .kind .given .1) in omega (arith, o .inside)
 
 part-body-start : tie.Need-part-body-start
-part-body-start c = let o = outline _ (sym (c .before .before .before .outline .ensures) ∙ c .before .kind .given .1) in omega (arith, o .inside)
+part-body-start c = let o = outline _ _ _ (sym (c .before .before .before .outline .ensures) ∙ c .before .kind .given .1) in omega (arith, o .inside)
 
 part-body-end : tie.Need-part-body-end
 part-body-end c = search needs
@@ -39,6 +39,9 @@ enum-told c = search needs
 
 enum-told-2 : tie.Need-enum-told-2
 enum-told-2 c = search needs
+
+enum-told-3 : tie.Need-enum-told-3
+enum-told-3 c = search needs
 
 refusal-requires-2 : tie.Need-refusal-requires-2
 refusal-requires-2 c κs = search needs
@@ -62,7 +65,7 @@ same-length-3 c = search needs
 
 returns-4 : tie.Need-returns-4
 returns-4 c =
-    body-refused _ _ (c .refusal2 .ensures) (sym (c .before .before .before .before .before .before .before .before .before .before .outline .ensures) ∙ c .before .before .before .before .before .before .before .before .kind .given .1) (c .before .before .before .before .body .ensures) (unread (c .before .before .before .before .body .result .verdict) (c .before .match2 .keys3))
+    body-refused _ _ (c .refusal2 .ensures) (sym (c .before .before .before .before .before .before .before .before .before .before .before .outline .ensures) ∙ c .before .before .before .before .before .before .before .before .before .kind .given .1) (c .before .before .before .before .before .body .ensures) (ap wasRead (c .before .enum-told3 .given .1))
 
 pub read-spec : {M : Type 1} → statement M
 read-spec =
@@ -79,6 +82,7 @@ read-spec =
     body-requires
     enum-told
     enum-told-2
+    enum-told-3
     refusal-requires-2
     same-length
     returns-2

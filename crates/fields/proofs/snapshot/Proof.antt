@@ -13,12 +13,12 @@ use Rattle.fields.proofs.snapshot.Tie as tie
 walk-requires : tie.Need-walk-requires
 walk-requires c κs = (omega arith, (omega arith, refl))
 
-alone-requires : tie.Need-alone-requires
-alone-requires c κs = search needs
+breach-requires : tie.Need-breach-requires
+breach-requires c κs = search needs
 
 returns : tie.Need-returns
 returns c =
-    leads-as (c .alone .ensures) _ (λ depth. refused-by _ (w-untidy depth _ (was-untidy _ 268 21 4 11 _ _ (c .before .before .before .walk .ensures) (not-true _ (c .before .if1 .taken)))))
+    leads-as (c .breach .ensures) _ (λ depth. refused-by _ (w-untidy depth _ (was-untidy _ 268 21 4 11 _ _ (c .before .before .before .walk .ensures .tells) (not-true _ (c .before .if1 .taken)))))
 
 top-w-requires : tie.Need-top-w-requires
 top-w-requires c κs = search needs
@@ -29,20 +29,20 @@ enum-known-t c = search needs
 enum-told : tie.Need-enum-told
 enum-told c = search needs
 
-alone-requires-2 : tie.Need-alone-requires-2
-alone-requires-2 c κs = search needs
+breach-requires-2 : tie.Need-breach-requires-2
+breach-requires-2 c κs = search needs
 
 returns-2 : tie.Need-returns-2
 returns-2 c =
-    let p = was-tidy _ 268 21 4 11 _ _ (c .before .before .before .before .before .before .before .walk .ensures) (not-false _ (c .before .before .before .before .before .if1 .left)) in
-    leads-as (c .alone2 .ensures) _ (λ depth. refused-by _ (w-no-top depth _ (sym (top-w-same _ _ _ (p .holds)) ∙ no-top _ (sym (c .before .before .before .top-w .ensures) ∙ c .before .enum-told .given .1))))
+    let p = was-tidy _ 268 21 4 11 _ _ (c .before .before .before .before .before .before .before .walk .ensures .tells) (not-false _ (c .before .before .before .before .before .if1 .left)) in
+    leads-as (c .breach2 .ensures) _ (λ depth. refused-by _ (w-no-top depth _ (sym (top-w-same _ _ _ (p .holds)) ∙ no-top _ (sym (c .before .before .before .top-w .ensures) ∙ c .before .enum-told .given .1))))
 
 group-requires : tie.Need-group-requires
 group-requires c κs = fair-w _ _ (is-top-w _ (a-top _ (sym (c .before .before .before .top-w .ensures) ∙ c .before .t .given .1)))
 
 returns-3 : tie.Need-returns-3
 returns-3 c =
-    let p = was-tidy _ 268 21 4 11 _ _ (c .before .before .before .before .before .before .before .before .walk .ensures) (not-false _ (c .before .before .before .before .before .before .if1 .left)) in
+    let p = was-tidy _ 268 21 4 11 _ _ (c .before .before .before .before .before .before .before .before .walk .ensures .tells) (not-false _ (c .before .before .before .before .before .before .if1 .left)) in
     let t = is-top-w _ (sym (top-w-same _ _ _ (p .holds)) ∙ a-top _ (sym (c .before .before .before .before .top-w .ensures) ∙ c .before .before .t .given .1)) in
     leads-as (c .group .ensures) _ (λ depth. w-is depth _ (p .tidy) _ t _ (p .rest))
 
@@ -51,12 +51,12 @@ snapshot-spec =
     tie.close
     (tie.spec
     walk-requires
-    alone-requires
+    breach-requires
     returns
     top-w-requires
     enum-known-t
     enum-told
-    alone-requires-2
+    breach-requires-2
     returns-2
     group-requires
     returns-3)

@@ -1,13 +1,8 @@
--- The ranges of a message's numbers (document 01, "Fields").
+-- A SecurityID (document 01, "Fields": 48): 1 to 18 digits, at least 1.
 use mathlib.Core.Bool.{Bool, _&&_}
 use Prim.Native.Nat.{ℕ}
 use lib.Dec.{leb}
 
--- 34, 369 and 911 end here.
-abbrev pub mostNumber : ℕ
-mostNumber = 4294967295
-
--- 48: 1 to 18 digits, at least 1.
 abbrev pub mostId : ℕ
 mostId = 999999999999999999
 

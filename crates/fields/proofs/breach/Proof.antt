@@ -1,0 +1,16 @@
+-- `fields::breach` meets its contract: a message without a group, refused. Assumes nothing.
+use borrow.Author.Needs.{needs}
+use Rattle.message.specs.declared.Refusal.the-variants.{BadFields}
+use Rattle.fields.proofs.Leading.{leads-as}
+use Rattle.fields.proofs.Positions.{bare-refused}
+use Rattle.fields.proofs.breach.Statement.{statement}
+use Rattle.fields.proofs.breach.Tie as tie
+
+alone-requires : tie.Need-alone-requires
+alone-requires c κs = search needs
+
+returns : tie.Need-returns
+returns c = leads-as (c .alone .ensures) _ (λ depth. bare-refused BadFields)
+
+pub breach-spec : {M : Type 1} → statement M
+breach-spec = tie.close (tie.spec alone-requires returns)
