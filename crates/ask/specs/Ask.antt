@@ -1,4 +1,5 @@
 -- What a caller asks of a store, and the numbers that answer it (document 01, "Quote and writing" and "Answer numbers").
+use mathlib.Core.Path.{_≡_}
 use mathlib.Core.Bool.{cond, _&&_}
 use mathlib.Core.List.{List, [], _∷_, _++_}
 use Prim.Native.Nat.{ℕ, _+_, _-_, _^_}
@@ -76,6 +77,11 @@ quoteAnswer id now limit out xs = quoteNumber (quotedOf id now limit out xs)
 unfoldable pub quoteOut : ℕ → List ℕ → ℕ → List ℕ → List ℕ → List ℕ
 quoteOut id now limit out xs = quotedRoom (boardAt xs .depth) (quotedOf id now limit out xs) out
 
+-- What a call answers, and what it leaves ys of the room.
+pub record Asked (id : ℕ) (now : List ℕ) (limit : ℕ) (room xs : List ℕ) (r : ℕ) (ys : List ℕ) : Type 0 where
+  pub answer : r ≡ quoteAnswer id now limit room xs
+  pub out : ys ≡ quoteOut id now limit room xs
+
 -- ---- an instrument's state as numbers
 
 -- A state takes 4 numbers.
@@ -96,3 +102,8 @@ stateAnswer id out xs =
 -- With 0 the state stands at the start of the room; a refusal leaves the room as it was.
 unfoldable pub stateOut : ℕ → List ℕ → List ℕ → List ℕ
 stateOut id out xs = cond (eqb (stateAnswer id out xs) 0) (sets out 0 (stateWords (at (look id (boardAt xs .insts)) (boardAt xs)))) out
+
+-- What a call answers, and what it leaves ys of the room.
+pub record Stated (id : ℕ) (room xs : List ℕ) (r : ℕ) (ys : List ℕ) : Type 0 where
+  pub answer : r ≡ stateAnswer id room xs
+  pub out : ys ≡ stateOut id room xs

@@ -16,7 +16,7 @@ ghost use Rattle.store.specs.Meaning.{st, boardIn, boardAt};
 ghost use Rattle.store.specs.Canon.{Formed};
 ghost use Rattle.sound.specs.Sound.{sound};
 ghost use Rattle.quote.specs.Quotes.{quoteNumber, quoteOf};
-ghost use Rattle.ask.specs.Ask.{quoteSize, bitsOf, momentWords, byWords, entryWords, topWords, quoteWords, quotedRoom, quoteAnswer, quoteOut, stateWords, stateAnswer, stateOut};
+ghost use Rattle.ask.specs.Ask.{quoteSize, bitsOf, momentWords, byWords, entryWords, topWords, quoteWords, quotedRoom, Asked, stateWords, Stated};
 ghost use Rattle.ask.specs.Fine.{FineTop, FineQuote, FineQuoted};
 
 // Nothing heard yet.
@@ -142,8 +142,7 @@ fn quote_into(store: &[u64], id: u64, time: &[u8], limit: u64, out: &mut [u64]) 
 // The dated quote of the instrument with this SecurityID, now a date and time shaped as tag 52, the limit in seconds: 17, 18,
 // 20 to 24, else 0 and 17 numbers at the start of the room.
 pub fn quote(store: &[u64], id: u64, time: &[u8], limit: u64, out: &mut [u64]) -> u64
-    ensures { λ r. ⌜ r ≡ quoteAnswer id (now (time .entry)) limit (now (out .entry)) (now (store .entry)) ⌝ }
-    ensures { λ r. ⌜ now (out .exit) ≡ quoteOut id (now (time .entry)) limit (now (out .entry)) (now (store .entry)) ⌝ }
+    ensures { λ r. ⌜ Asked id (now (time .entry)) limit (now (out .entry)) (now (store .entry)) r (now (out .exit)) ⌝ }
 {
     if !sound::sound(store) {
         return store::BAD_STORE;
@@ -176,8 +175,7 @@ fn put_state(store: &[u64], h: Heading, i: usize, out: &mut [u64])
 
 // The state of the instrument with this SecurityID: 17, 18, 20, else 0 and 4 numbers at the start of the room.
 pub fn state(store: &[u64], id: u64, out: &mut [u64]) -> u64
-    ensures { λ r. ⌜ r ≡ stateAnswer id (now (out .entry)) (now (store .entry)) ⌝ }
-    ensures { λ r. ⌜ now (out .exit) ≡ stateOut id (now (out .entry)) (now (store .entry)) ⌝ }
+    ensures { λ r. ⌜ Stated id (now (out .entry)) (now (store .entry)) r (now (out .exit)) ⌝ }
 {
     if !sound::sound(store) {
         return store::BAD_STORE;

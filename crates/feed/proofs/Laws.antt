@@ -22,7 +22,7 @@ use Rattle.store.specs.Meaning.{boardAt, written}
 use Rattle.sound.specs.Sound.{same, sound}
 use Rattle.sound.proofs.Laws.{sound-is-written, written-length, written-reads-back, written-is-sound}
 use Rattle.feed.specs.Feeding.{fed, feedStore}
-use Rattle.feed.specs.Laws.{FeedKeepsSound, FeedIsBoard, RefusedStays, BeyondStays}
+use Rattle.feed.specs.Laws.{FeedKeepsSound, FeedIsBoard, RefusedStays, BeyondStays, FeedSettled}
 
 board-of : (xs : List ℕ) → sound xs ≡ true → soundBoard (boardAt xs) ≡ true
 unfolding sound
@@ -75,3 +75,6 @@ beyond-stays bytes xs = go (sound xs) refl
           omega (arith, length-append (written b) (drop storeSize xs), length-drop storeSize xs, written-length b, long-of xs q),
         )
     go false q = (refl, refl)
+
+pub feed-settled : FeedSettled
+feed-settled bytes xs r s ys zs a b = (a .answer ∙ sym (b .answer), a .store ∙ sym (b .store))

@@ -8,7 +8,8 @@ use Rattle.board.specs.Calls.{changes}
 use Rattle.store.specs.Layout.{storeSize}
 use Rattle.store.specs.Meaning.{boardAt}
 use Rattle.sound.specs.Sound.{sound}
-use Rattle.feed.specs.Feeding.{fed, feedStore}
+use Rattle.sound.specs.Settled.{Settled}
+use Rattle.feed.specs.Feeding.{fed, feedStore, Fed}
 
 -- A sound store stays sound, whatever the bytes, and is the board after them.
 abbrev pub FeedKeepsSound : Type 0
@@ -24,3 +25,7 @@ RefusedStays = (bytes xs : List ℕ) → changes (fed bytes (boardAt xs) .answer
 -- Numbers beyond the 7,168 are never touched, and the store keeps its length.
 abbrev pub BeyondStays : Type 0
 BeyondStays = (bytes xs : List ℕ) → (drop storeSize (feedStore bytes xs) ≡ drop storeSize xs) × (length (feedStore bytes xs) ≡ length xs)
+
+-- The call is settled.
+abbrev pub FeedSettled : Type 0
+FeedSettled = (bytes xs : List ℕ) → Settled (Fed bytes xs)
