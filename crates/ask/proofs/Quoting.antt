@@ -1,5 +1,5 @@
 -- A quote of a sound board can be written, and its answers test by test.
-use mathlib.Core.Path.{_≡_, refl}
+use mathlib.Core.Path.{_≡_, refl, _∙_}
 use mathlib.Core.Bool.{Bool, true, false, cond, _&&_}
 use mathlib.Core.List.{List, [], _∷_}
 use Prim.Native.Nat.{ℕ, _*_, _≤_, _<_}
@@ -20,10 +20,10 @@ use Rattle.board.proofs.Tested.{both, three}
 use Rattle.board.proofs.Each.{each-at}
 use Rattle.store.specs.Meaning.{boardAt}
 use Rattle.sound.specs.Sound.{sound}
-use Rattle.quote.specs.Quotes.{mostLimit, topOf, given, quoteAt, atNow, quoteOf, quoteNumber}
+use Rattle.quote.specs.Quotes.{mostLimit, topOf, given, quoteAt, atNow, quoteOf}
 use Rattle.quote.specs.declared.Quoted.{Quoted}
 use Rattle.quote.proofs.Asked.{heard-held}
-use Rattle.ask.specs.Ask.{quotedRoom, quoteAnswer, quoteOut, Asked}
+use Rattle.ask.specs.Ask.{roomAfter, quoteNumber, quoteValues, quoteAnswer, quoteOut, Asked}
 use Rattle.ask.specs.Fine.{FineTop, FineQuote, FineQuoted}
 
 -- ---- every moment is in range
@@ -86,7 +86,7 @@ module _ (id : ℕ) (now : List ℕ) (limit : ℕ) (room xs : List ℕ) where
     unfolding quoteAnswer quoteOut
     short h = let e = lt-leb 17 (length room) h in record { answer = rw (s, e); out = rw (s, e) }
 
-    pub asked : 17 ≤ length room
-        → Asked id now limit room xs (quoteNumber (quoteOf id now limit (boardAt xs))) (quotedRoom (boardAt xs .depth) (quoteOf id now limit (boardAt xs)) room)
+    pub asked : 17 ≤ length room → (r : ℕ) → r ≡ quoteNumber (quoteOf id now limit (boardAt xs))
+        → Asked id now limit room xs r (roomAfter r (quoteValues (boardAt xs .depth) (quoteOf id now limit (boardAt xs))) room)
     unfolding quoteAnswer quoteOut
-    asked h = let e = le-leb 17 (length room) h in record { answer = rw (s, e); out = rw (s, e) }
+    asked h r n = let e = le-leb 17 (length room) h in record { answer = n ∙ rw (s, e); out = rw (s, e, n) }

@@ -1,22 +1,20 @@
 -- The marked cases, from what the crates show. Assumes nothing.
-use mathlib.Core.Path.{_≡_, refl, sym, ap, _∙_}
+use mathlib.Core.Path.{_≡_, refl, ap}
 use mathlib.Core.List.{List, [], _∷_}
 use Prim.Native.Nat.{ℕ}
-use native.Mathlib.Omega.{arith}
 use lib.ListN.{length}
 use Rattle.price.proofs.Cases as price
 use Rattle.moment.proofs.Cases as moment
 use Rattle.frame.proofs.Marked.{sums-to-29}
-use Rattle.book.specs.Rules.{Outcome, leaves, breach, applied, afterAction, afterNew, afterChange, afterThru, afterFrom}
+use Rattle.book.specs.Rules.{leaves, breach, applied, afterAction, afterNew, afterChange, afterThru, afterFrom}
 use Rattle.book.specs.declared.Entry.{Entry}
 use Rattle.message.specs.Message.{Message}
-use Rattle.board.specs.Board.{Board, Out, opened, anyWaiting, look}
+use Rattle.board.specs.Board.{Board, Out, anyWaiting, look}
 use Rattle.board.specs.Count.{joining, hit, give, gives, count, number}
 use Rattle.board.specs.Snapshot.{entriesOf, run, after, take, snap}
 use Rattle.board.specs.Feed.{feed}
 use Rattle.board.specs.Calls.{inst}
-use Rattle.quote.specs.Quotes.{quoteNumber}
-use Rattle.quote.specs.declared.Quoted.{Quoted}
+use Rattle.ask.specs.Ask.{quoteNumber}
 use Rattle.quote.proofs.Cases as quote
 use Rattle.fields.specs.Messages.{messageIn}
 use Rattle.feed.specs.Feeding.{fed}

@@ -8,18 +8,19 @@ use lib.ListN.{length}
 use Rattle.digits.specs.declared.Number.{Number}
 use Rattle.price.specs.Price.{priceOf}
 use Rattle.price.specs.declared.Priced.{Priced}
-use Rattle.moment.specs.Moments.{dateOf, timeOf, span}
+use Rattle.moment.specs.Moments.{dateOf, span}
 use Rattle.frame.specs.Frames.{total}
 use Rattle.book.specs.Rules.{leaves, breach, afterNew, afterThru, afterFrom}
 use Rattle.book.specs.declared.Entry.{Entry}
 use Rattle.message.specs.Message.{refused}
 use Rattle.message.specs.declared.Verdict.the-variants.{BadFields}
-use Rattle.board.specs.Board.{Board, Out, opened, at}
+use Rattle.board.specs.Board.{Board, opened, at}
 use Rattle.board.specs.Calls.{inst}
 use Rattle.fields.specs.Messages.{messageIn}
 use Rattle.feed.specs.Feeding.{fed}
-use Rattle.quote.specs.Quotes.{given, quoteAt, quoteNumber}
+use Rattle.quote.specs.Quotes.{given, quoteAt}
 use Rattle.quote.specs.declared.Quoted.{Quoted}
+use Rattle.ask.specs.Ask.{quoteNumber}
 use Rattle.frame.proofs.Marked.{before-ten}
 use Rattle.samples.specs.Messages.{point-alone, eight-decimals, first, second, third, at-1, at-2, at-4}
 use Rattle.samples.specs.Says.{bid-2, offer-3}
