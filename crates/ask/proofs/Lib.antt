@@ -3,3 +3,4 @@ pub mod States
 pub mod Signs
 pub mod Words
 pub mod Quoting
+pub mod Laws

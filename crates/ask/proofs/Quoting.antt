@@ -1,5 +1,5 @@
 -- A quote of a sound board can be written, and its answers test by test.
-use mathlib.Core.Path.{_≡_, refl}
+use mathlib.Core.Path.{_≡_, refl, _∙_}
 use mathlib.Core.Bool.{Bool, true, false, cond, _&&_}
 use mathlib.Core.List.{List, [], _∷_}
 use Prim.Native.Nat.{ℕ, _*_, _≤_, _<_}
@@ -20,10 +20,10 @@ use Rattle.board.proofs.Tested.{entry-sound}
 use Rattle.board.proofs.Each.{each-at}
 use Rattle.store.specs.Meaning.{boardAt}
 use Rattle.sound.specs.Sound.{sound}
-use Rattle.quote.specs.Quotes.{mostLimit, topOf, given, quoteAt, atNow, quoteOf, quoteNumber}
+use Rattle.quote.specs.Quotes.{mostLimit, topOf, given, quoteAt, atNow, quoteOf}
 use Rattle.quote.specs.declared.Quoted.{Quoted}
 use Rattle.quote.proofs.Asked.{heard-held}
-use Rattle.ask.specs.Ask.{quotedRoom, quoteAnswer, quoteOut}
+use Rattle.ask.specs.Ask.{roomAfter, quoteNumber, quoteValues, quoteAnswer, quoteOut, Asked}
 use Rattle.ask.specs.Fine.{FineTop, FineQuote, FineQuoted}
 
 -- ---- every moment is in range
@@ -72,18 +72,17 @@ module _ (b : Board) (s : Sound b) where
 
 -- ---- the answers
 
-module _ (id : ℕ) (now : List ℕ) (limit : ℕ) (out xs : List ℕ) where
-  pub unsound : sound xs ≡ false → (17 ≡ quoteAnswer id now limit out xs) × (out ≡ quoteOut id now limit out xs)
+module _ (id : ℕ) (now : List ℕ) (limit : ℕ) (room xs : List ℕ) where
+  pub unsound : sound xs ≡ false → Asked id now limit room xs 17 room
   unfolding quoteAnswer quoteOut
-  unsound s = (rw s, rw s)
+  unsound s = record { answer = rw s; out = rw s }
 
   module _ (s : sound xs ≡ true) where
-    pub short : length out < 17 → (18 ≡ quoteAnswer id now limit out xs) × (out ≡ quoteOut id now limit out xs)
+    pub short : length room < 17 → Asked id now limit room xs 18 room
     unfolding quoteAnswer quoteOut
-    short h = let e = lt-leb 17 (length out) h in (rw (s, e), rw (s, e))
+    short h = let e = lt-leb 17 (length room) h in record { answer = rw (s, e); out = rw (s, e) }
 
-    pub asked : 17 ≤ length out
-        → (quoteAnswer id now limit out xs ≡ quoteNumber (quoteOf id now limit (boardAt xs)))
-        × (quoteOut id now limit out xs ≡ quotedRoom (boardAt xs .depth) (quoteOf id now limit (boardAt xs)) out)
+    pub asked : 17 ≤ length room → (r : ℕ) → r ≡ quoteNumber (quoteOf id now limit (boardAt xs))
+        → Asked id now limit room xs r (roomAfter r (quoteValues (boardAt xs .depth) (quoteOf id now limit (boardAt xs))) room)
     unfolding quoteAnswer quoteOut
-    asked h = let e = le-leb 17 (length out) h in (rw (s, e), rw (s, e))
+    asked h r n = let e = le-leb 17 (length room) h in record { answer = n ∙ rw (s, e); out = rw (s, e, n) }

@@ -17,7 +17,7 @@ use Rattle.store.specs.Meaning.{State, instAt, boardIn, boardAt}
 use Rattle.store.specs.Canon.{Formed}
 use Rattle.store.proofs.Decode.{at-board}
 use Rattle.sound.specs.Sound.{sound}
-use Rattle.ask.specs.Ask.{stateWords, stateAnswer, stateOut}
+use Rattle.ask.specs.Ask.{stateWords, stateAnswer, stateOut, Stated}
 
 length-held : (t : Side) → Kept t → length (heldIn t) ≡ t .held
 length-held t k = let f = k .full in let r = k .room in length-take-le (t .held) (t .places) (omega arith)
@@ -34,33 +34,33 @@ state-is s i f h =
     ap stateWords (at-board i s h) ∙ rw (p, q)
 
 -- the answers, test by test
-module _ (id : ℕ) (out xs : List ℕ) where
-  pub unsound : sound xs ≡ false → (17 ≡ stateAnswer id out xs) × (out ≡ stateOut id out xs)
+module _ (id : ℕ) (room xs : List ℕ) where
+  pub unsound : sound xs ≡ false → Stated id room xs 17 room
   unfolding stateAnswer stateOut
-  unsound s = (rw s, rw s)
+  unsound s = record { answer = rw s; out = rw s }
 
   module _ (s : sound xs ≡ true) where
-    pub short : length out < 4 → (18 ≡ stateAnswer id out xs) × (out ≡ stateOut id out xs)
+    pub short : length room < 4 → Stated id room xs 18 room
     unfolding stateAnswer stateOut
-    short h = let e = lt-leb 4 (length out) h in (rw (s, e), rw (s, e))
+    short h = let e = lt-leb 4 (length room) h in record { answer = rw (s, e); out = rw (s, e) }
 
-    module _ (room : 4 ≤ length out) where
-      pub no-id : idFine id ≡ false → (18 ≡ stateAnswer id out xs) × (out ≡ stateOut id out xs)
+    module _ (long : 4 ≤ length room) where
+      pub no-id : idFine id ≡ false → Stated id room xs 18 room
       unfolding stateAnswer stateOut
-      no-id e = let l = le-leb 4 (length out) room in (rw (s, l, e), rw (s, l, e))
+      no-id e = let l = le-leb 4 (length room) long in record { answer = rw (s, l, e); out = rw (s, l, e) }
 
       module _ (fine : idFine id ≡ true) where
-        pub not-followed : length (boardAt xs .insts) ≤ look id (boardAt xs .insts) → (20 ≡ stateAnswer id out xs) × (out ≡ stateOut id out xs)
+        pub not-followed : length (boardAt xs .insts) ≤ look id (boardAt xs .insts) → Stated id room xs 20 room
         unfolding stateAnswer stateOut
         not-followed h =
-            let l = le-leb 4 (length out) room in
+            let l = le-leb 4 (length room) long in
             let e = le-leb _ _ h in
-            (rw (s, l, fine, e), rw (s, l, fine, e))
+            record { answer = rw (s, l, fine, e); out = rw (s, l, fine, e) }
 
         pub stated : look id (boardAt xs .insts) < length (boardAt xs .insts)
-            → (0 ≡ stateAnswer id out xs) × (sets out 0 (stateWords (at (look id (boardAt xs .insts)) (boardAt xs))) ≡ stateOut id out xs)
+            → Stated id room xs 0 (sets room 0 (stateWords (at (look id (boardAt xs .insts)) (boardAt xs))))
         unfolding stateAnswer stateOut
         stated h =
-            let l = le-leb 4 (length out) room in
+            let l = le-leb 4 (length room) long in
             let e = lt-leb _ _ h in
-            (rw (s, l, fine, e), rw (s, l, fine, e))
+            record { answer = rw (s, l, fine, e); out = rw (s, l, fine, e) }

@@ -1,4 +1,5 @@
 -- What a caller asks of a store, and the numbers that answer it (document 01, "Quote and writing" and "Answer numbers").
+use mathlib.Core.Path.{_≡_}
 use mathlib.Core.Bool.{cond, _&&_}
 use mathlib.Core.List.{List, [], _∷_, _++_}
 use Prim.Native.Nat.{ℕ, _+_, _-_, _^_}
@@ -18,7 +19,11 @@ use Rattle.sound.specs.Sound.{sound}
 use Rattle.quote.specs.declared.Top.{Top}
 use Rattle.quote.specs.declared.Quote.{Quote}
 use Rattle.quote.specs.declared.Quoted.{Quoted}
-use Rattle.quote.specs.Quotes.{quoteOf, quoteNumber}
+use Rattle.quote.specs.Quotes.{quoteOf}
+
+-- With 0 the values stand at the start of the room; a refusal writes nothing there.
+abbrev pub roomAfter : ℕ → List ℕ → List ℕ → List ℕ
+roomAfter answer values room = cond (eqb answer 0) (sets room 0 values) room
 
 -- ---- a quote as numbers
 
@@ -53,28 +58,40 @@ topWords depth Top.Empty = zeros 7
 abbrev pub quoteWords : ℕ → Quote → List ℕ
 quoteWords depth q = q .number ∷ momentWords (q .heard) ++ (topWords depth (q .bid) ++ topWords depth (q .offer))
 
--- The quote at the start of the room; a refusal leaves the room as it was.
-abbrev pub quotedRoom : ℕ → Quoted → List ℕ → List ℕ
-quotedRoom depth (Quoted.Is q) out = sets out 0 (quoteWords depth q)
-quotedRoom depth Quoted.Unsound out = out
-quotedRoom depth Quoted.BadArgument out = out
-quotedRoom depth Quoted.NotFollowed out = out
-quotedRoom depth Quoted.Waiting out = out
-quotedRoom depth Quoted.NothingHeard out = out
-quotedRoom depth Quoted.BeforeHeard out = out
-quotedRoom depth Quoted.TooOld out = out
+-- Document 01's number of each case of a quote.
+abbrev pub quoteNumber : Quoted → ℕ
+quoteNumber (Quoted.Is q) = 0
+quoteNumber Quoted.BadArgument = 18
+quoteNumber Quoted.NotFollowed = 20
+quoteNumber Quoted.Waiting = 21
+quoteNumber Quoted.NothingHeard = 22
+quoteNumber Quoted.BeforeHeard = 23
+quoteNumber Quoted.TooOld = 24
+
+-- And the values of each case: a refused quote carries zeros.
+abbrev pub quoteValues : ℕ → Quoted → List ℕ
+quoteValues depth (Quoted.Is q) = quoteWords depth q
+quoteValues depth Quoted.BadArgument = zeros quoteSize
+quoteValues depth Quoted.NotFollowed = zeros quoteSize
+quoteValues depth Quoted.Waiting = zeros quoteSize
+quoteValues depth Quoted.NothingHeard = zeros quoteSize
+quoteValues depth Quoted.BeforeHeard = zeros quoteSize
+quoteValues depth Quoted.TooOld = zeros quoteSize
 
 -- 17 for an unsound store, then 18 for room too short or an argument outside its range, then 20 to 24 of the board.
-abbrev pub quotedOf : ℕ → List ℕ → ℕ → List ℕ → List ℕ → Quoted
-quotedOf id now limit out xs =
-    cond (sound xs) (cond (leb quoteSize (length out)) (quoteOf id now limit (boardAt xs)) Quoted.BadArgument) Quoted.Unsound
-
--- What a quote of the store xs into the room out answers, and the room that it leaves.
 unfoldable pub quoteAnswer : ℕ → List ℕ → ℕ → List ℕ → List ℕ → ℕ
-quoteAnswer id now limit out xs = quoteNumber (quotedOf id now limit out xs)
+quoteAnswer id now limit room xs =
+    cond (sound xs) (cond (leb quoteSize (length room)) (quoteNumber (quoteOf id now limit (boardAt xs))) 18) 17
 
+-- The room that a quote of the store xs leaves.
 unfoldable pub quoteOut : ℕ → List ℕ → ℕ → List ℕ → List ℕ → List ℕ
-quoteOut id now limit out xs = quotedRoom (boardAt xs .depth) (quotedOf id now limit out xs) out
+quoteOut id now limit room xs =
+    roomAfter (quoteAnswer id now limit room xs) (quoteValues (boardAt xs .depth) (quoteOf id now limit (boardAt xs))) room
+
+-- What a call answers, and what it leaves ys of the room.
+pub record Asked (id : ℕ) (now : List ℕ) (limit : ℕ) (room xs : List ℕ) (r : ℕ) (ys : List ℕ) : Type 0 where
+  pub answer : r ≡ quoteAnswer id now limit room xs
+  pub out : ys ≡ quoteOut id now limit room xs
 
 -- ---- an instrument's state as numbers
 
@@ -88,11 +105,16 @@ stateWords x = cond (x .waiting) 1 0 ∷ x .reason ∷ length (x .book .bids) �
 
 -- 17 for an unsound store, 18 for room too short or no SecurityID, 20 for an instrument that isn't followed.
 unfoldable pub stateAnswer : ℕ → List ℕ → List ℕ → ℕ
-stateAnswer id out xs =
+stateAnswer id room xs =
     cond (sound xs)
-    (cond (leb stateSize (length out) && idFine id) (cond (leb (length (boardAt xs .insts)) (look id (boardAt xs .insts))) 20 0) 18)
+    (cond (leb stateSize (length room) && idFine id) (cond (leb (length (boardAt xs .insts)) (look id (boardAt xs .insts))) 20 0) 18)
     17
 
--- With 0 the state stands at the start of the room; a refusal leaves the room as it was.
+-- The room that a state of the store xs leaves.
 unfoldable pub stateOut : ℕ → List ℕ → List ℕ → List ℕ
-stateOut id out xs = cond (eqb (stateAnswer id out xs) 0) (sets out 0 (stateWords (at (look id (boardAt xs .insts)) (boardAt xs)))) out
+stateOut id room xs = roomAfter (stateAnswer id room xs) (stateWords (at (look id (boardAt xs .insts)) (boardAt xs))) room
+
+-- What a call answers, and what it leaves ys of the room.
+pub record Stated (id : ℕ) (room xs : List ℕ) (r : ℕ) (ys : List ℕ) : Type 0 where
+  pub answer : r ≡ stateAnswer id room xs
+  pub out : ys ≡ stateOut id room xs

@@ -15,8 +15,8 @@ ghost use Rattle.board.specs.Board.{at};
 ghost use Rattle.store.specs.Meaning.{st, boardIn, boardAt};
 ghost use Rattle.store.specs.Canon.{Formed};
 ghost use Rattle.sound.specs.Sound.{sound};
-ghost use Rattle.quote.specs.Quotes.{quoteNumber, quoteOf};
-ghost use Rattle.ask.specs.Ask.{quoteSize, bitsOf, momentWords, byWords, entryWords, topWords, quoteWords, quotedRoom, quoteAnswer, quoteOut, stateWords, stateAnswer, stateOut};
+ghost use Rattle.quote.specs.Quotes.{quoteOf};
+ghost use Rattle.ask.specs.Ask.{quoteSize, bitsOf, momentWords, byWords, entryWords, topWords, quoteWords, roomAfter, quoteNumber, quoteValues, Asked, stateWords, Stated};
 ghost use Rattle.ask.specs.Fine.{FineTop, FineQuote, FineQuoted};
 
 // Nothing heard yet.
@@ -111,14 +111,13 @@ fn put_quote(out: &mut [u64], depth: u64, q: Quote)
 fn tell(out: &mut [u64], depth: u64, q: Quoted) -> u64
     requires { ⌜ (quoteSize ≤ length (now out)) × FineQuoted q ⌝ }
     ensures { λ r. ⌜ r ≡ quoteNumber q ⌝ }
-    ensures { λ r. ⌜ now (out .exit) ≡ quotedRoom depth q (now (out .entry)) ⌝ }
+    ensures { λ r. ⌜ now (out .exit) ≡ roomAfter r (quoteValues depth q) (now (out .entry)) ⌝ }
 {
     match q {
         Quoted::Is(x) => {
             put_quote(out, depth, x);
             return store::DONE;
         }
-        Quoted::Unsound => return store::BAD_STORE,
         Quoted::BadArgument => return store::BAD_ARGUMENT,
         Quoted::NotFollowed => return store::NOT_FOLLOWED,
         Quoted::Waiting => return store::WAITING,
@@ -132,7 +131,7 @@ fn tell(out: &mut [u64], depth: u64, q: Quoted) -> u64
 fn quote_into(store: &[u64], id: u64, time: &[u8], limit: u64, out: &mut [u64]) -> u64
     requires { ⌜ (sound (now store) ≡ true) × (quoteSize ≤ length (now out)) ⌝ }
     ensures { λ r. ⌜ r ≡ quoteNumber (quoteOf id (now (time .entry)) limit (boardAt (now (store .entry)))) ⌝ }
-    ensures { λ r. ⌜ now (out .exit) ≡ quotedRoom (boardAt (now (store .entry)) .depth) (quoteOf id (now (time .entry)) limit (boardAt (now (store .entry)))) (now (out .entry)) ⌝ }
+    ensures { λ r. ⌜ now (out .exit) ≡ roomAfter r (quoteValues (boardAt (now (store .entry)) .depth) (quoteOf id (now (time .entry)) limit (boardAt (now (store .entry))))) (now (out .entry)) ⌝ }
 {
     let h = store::load_heading(store);
     let q = quote::quote_for(store, h, id, time, limit);
@@ -142,8 +141,7 @@ fn quote_into(store: &[u64], id: u64, time: &[u8], limit: u64, out: &mut [u64]) 
 // The dated quote of the instrument with this SecurityID, now a date and time shaped as tag 52, the limit in seconds: 17, 18,
 // 20 to 24, else 0 and 17 numbers at the start of the room.
 pub fn quote(store: &[u64], id: u64, time: &[u8], limit: u64, out: &mut [u64]) -> u64
-    ensures { λ r. ⌜ r ≡ quoteAnswer id (now (time .entry)) limit (now (out .entry)) (now (store .entry)) ⌝ }
-    ensures { λ r. ⌜ now (out .exit) ≡ quoteOut id (now (time .entry)) limit (now (out .entry)) (now (store .entry)) ⌝ }
+    ensures { λ r. ⌜ Asked id (now (time .entry)) limit (now (out .entry)) (now (store .entry)) r (now (out .exit)) ⌝ }
 {
     if !sound::sound(store) {
         return store::BAD_STORE;
@@ -176,8 +174,7 @@ fn put_state(store: &[u64], h: Heading, i: usize, out: &mut [u64])
 
 // The state of the instrument with this SecurityID: 17, 18, 20, else 0 and 4 numbers at the start of the room.
 pub fn state(store: &[u64], id: u64, out: &mut [u64]) -> u64
-    ensures { λ r. ⌜ r ≡ stateAnswer id (now (out .entry)) (now (store .entry)) ⌝ }
-    ensures { λ r. ⌜ now (out .exit) ≡ stateOut id (now (out .entry)) (now (store .entry)) ⌝ }
+    ensures { λ r. ⌜ Stated id (now (out .entry)) (now (store .entry)) r (now (out .exit)) ⌝ }
 {
     if !sound::sound(store) {
         return store::BAD_STORE;

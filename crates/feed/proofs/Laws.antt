@@ -2,17 +2,17 @@
 use mathlib.Core.Path.{_≡_, refl, sym, ap, _∙_}
 use mathlib.Core.Bool.{Bool, true, false, cond, _&&_}
 use mathlib.Core.List.{List, _++_}
-use Prim.Native.Nat.{ℕ, _+_, _≤_}
+use Prim.Native.Nat.{ℕ, _+_, _*_, _%_, _≤_}
+use native.Mathlib.Nat.{mod-eq-of-lt, add-mul-mod-self-left}
 use native.Mathlib.Omega.{arith}
-use borrow.Author.Tests.{leb-true}
-use lib.Dec.{leb}
+use borrow.Author.Tests.{leb-true, ltb-true, ltb-false, ne-eqb}
+use lib.Dec.{leb, ltb}
 use lib.ListN.{length, drop, take, length-append, length-drop, take-append-drop}
 use lib.Seq.{drop-append-seam}
 use Rattle.digits.proofs.Width.{both}
-use Rattle.board.specs.Board.{Board}
+use Rattle.board.specs.Board.{Board, Out, waitingIn}
 use Rattle.board.specs.Calls.{changes}
 use Rattle.board.specs.Sound.{soundBoard}
-use Rattle.board.specs.Ranges.{messageFine}
 use Rattle.board.proofs.Answers.{refusals-stay}
 use Rattle.board.proofs.Keeping.{keeps-sound}
 use Rattle.fields.specs.Messages.{messageIn}
@@ -21,8 +21,8 @@ use Rattle.store.specs.Layout.{storeSize}
 use Rattle.store.specs.Meaning.{boardAt, written}
 use Rattle.sound.specs.Sound.{same, sound}
 use Rattle.sound.proofs.Laws.{sound-is-written, written-length, written-reads-back, written-is-sound}
-use Rattle.feed.specs.Feeding.{fed, feedStore}
-use Rattle.feed.specs.Laws.{FeedKeepsSound, FeedIsBoard, RefusedStays, BeyondStays}
+use Rattle.feed.specs.Feeding.{fed, feedAnswer, feedStore}
+use Rattle.feed.specs.Laws.{FeedKeepsSound, FeedIsBoard, RefusedStays, BeyondStays, FeedSettled}
 
 board-of : (xs : List ℕ) → sound xs ≡ true → soundBoard (boardAt xs) ≡ true
 unfolding sound
@@ -50,14 +50,29 @@ unfolding feedStore
 feed-is-board bytes xs h =
     rw h (written-reads-back (fed bytes (boardAt xs) .board) (drop storeSize xs) (after-sound bytes (boardAt xs) (board-of xs h)))
 
-pub refused-stays : RefusedStays
-unfolding feedStore fed
-refused-stays bytes xs h = go (sound xs) refl
+-- the five numbers that change the store are below 256
+low : (a : ℕ) → changes (a % 256) ≡ false → changes a ≡ false
+low a h = go (ltb a 256) refl
   where
-    go : (z : Bool) → sound xs ≡ z → cond z (written (fed bytes (boardAt xs) .board) ++ drop storeSize xs) xs ≡ xs
-    go true q =
-        rw (refusals-stay (messageIn (boardAt xs .depth) bytes) (boardAt xs) h, sym (sound-is-written xs q)) (take-append-drop storeSize xs)
-    go false q = refl
+    go : (z : Bool) → ltb a 256 ≡ z → changes a ≡ false
+    go true q = rw (mod-eq-of-lt (ltb-true a 256 q)) at h
+    go false q =
+        let l : 256 ≤ a = ltb-false a 256 q in
+        rw (ne-eqb a 0 (λ e. omega (arith, e)), ne-eqb a 1 (λ e. omega (arith, e)), ne-eqb a 3 (λ e. omega (arith, e)), ne-eqb a 4 (λ e. omega (arith, e)), ne-eqb a 10 (λ e. omega (arith, e)))
+
+pub refused-stays : RefusedStays
+unfolding feedAnswer feedStore fed
+refused-stays bytes xs = go (sound xs) refl
+  where
+    o : Out
+    o = fed bytes (boardAt xs)
+
+    go : (z : Bool) → sound xs ≡ z → changes (cond z (o .answer + 256 * waitingIn (o .board .insts)) 17 % 256) ≡ false
+        → cond z (written (o .board) ++ drop storeSize xs) xs ≡ xs
+    go true q h =
+        let n : changes (o .answer) ≡ false = low (o .answer) (rw (add-mul-mod-self-left (o .answer) 256 (waitingIn (o .board .insts))) at h) in
+        rw (refusals-stay (messageIn (boardAt xs .depth) bytes) (boardAt xs) n, sym (sound-is-written xs q)) (take-append-drop storeSize xs)
+    go false q h = refl
 
 drop-front : (a b : List ℕ) (n : ℕ) → length a ≡ n → drop n (a ++ b) ≡ b
 drop-front a b n h = ap (λ (k : ℕ). drop k (a ++ b)) (sym h) ∙ drop-append-seam a b
@@ -75,3 +90,6 @@ beyond-stays bytes xs = go (sound xs) refl
           omega (arith, length-append (written b) (drop storeSize xs), length-drop storeSize xs, written-length b, long-of xs q),
         )
     go false q = (refl, refl)
+
+pub feed-settled : FeedSettled
+feed-settled bytes xs r s ys zs a b = (a .answer ∙ sym (b .answer), a .store ∙ sym (b .store))

@@ -1,5 +1,5 @@
--- An opened store is sound, and it is the opened board.
-use mathlib.Core.Path.{_≡_, refl}
+-- An opened store is sound, it is the opened board, and the call is settled. Assumes nothing.
+use mathlib.Core.Path.{_≡_, refl, sym, _∙_}
 use mathlib.Core.Bool.{Bool, true, false, cond}
 use mathlib.Core.List.{List, _++_}
 use Prim.Native.Nat.{ℕ}
@@ -13,7 +13,7 @@ use Rattle.store.specs.Layout.{storeSize}
 use Rattle.store.specs.Meaning.{written}
 use Rattle.sound.proofs.Laws.{written-reads-back, written-is-sound}
 use Rattle.opening.specs.Opening.{openAnswer, openStore}
-use Rattle.opening.specs.Laws.{OpenedIsSound, OpenedIsBoard}
+use Rattle.opening.specs.Laws.{OpenedIsSound, OpenedIsBoard, OpenSettled}
 
 -- where the answer is 0, both tests hold
 taken : (s t : Bool) → _≡_ {A = ℕ} (cond s (cond t 0 18) 17) 0 → (s ≡ true) × (t ≡ true)
@@ -37,3 +37,6 @@ opened-is-sound depth ids xs e =
 pub opened-is-board : OpenedIsBoard
 opened-is-board depth ids xs e =
     rw (store-is depth ids xs e) (written-reads-back (opened depth ids) (drop storeSize xs) (opens-sound depth ids (opens-is depth ids xs e)))
+
+pub open-settled : OpenSettled
+open-settled depth ids xs r s ys zs a b = (a .answer ∙ sym (b .answer), a .store ∙ sym (b .store))

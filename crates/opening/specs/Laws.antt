@@ -1,4 +1,4 @@
--- What is shown of opening: an opened store is sound, and it is the opened board.
+-- What is shown of opening: an opened store is sound, it is the opened board, and the call is settled.
 use mathlib.Core.Path.{_≡_}
 use mathlib.Core.Bool.{true}
 use mathlib.Core.List.{List}
@@ -6,10 +6,14 @@ use Prim.Native.Nat.{ℕ}
 use Rattle.board.specs.Board.{opened}
 use Rattle.store.specs.Meaning.{boardAt}
 use Rattle.sound.specs.Sound.{sound}
-use Rattle.opening.specs.Opening.{openAnswer, openStore}
+use Rattle.sound.specs.Settled.{Settled}
+use Rattle.opening.specs.Opening.{openAnswer, openStore, Opened}
 
 abbrev pub OpenedIsSound : Type 0
 OpenedIsSound = (depth : ℕ) (ids xs : List ℕ) → openAnswer depth ids xs ≡ 0 → sound (openStore depth ids xs) ≡ true
 
 abbrev pub OpenedIsBoard : Type 0
 OpenedIsBoard = (depth : ℕ) (ids xs : List ℕ) → openAnswer depth ids xs ≡ 0 → boardAt (openStore depth ids xs) ≡ opened depth ids
+
+abbrev pub OpenSettled : Type 0
+OpenSettled = (depth : ℕ) (ids xs : List ℕ) → Settled (Opened depth ids xs)

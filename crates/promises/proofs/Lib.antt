@@ -4,3 +4,4 @@ pub mod Marked
 pub mod Heard
 pub mod Quotes
 pub mod RoundTrip
+pub mod Refusals

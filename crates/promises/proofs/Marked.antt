@@ -2,28 +2,39 @@
 use mathlib.Core.Path.{_≡_, refl, sym, ap, _∙_}
 use mathlib.Core.List.{List, [], _∷_}
 use Prim.Native.Nat.{ℕ}
-use native.Mathlib.Omega.{arith}
+use borrow.Author.Tests.{le-leb}
 use lib.ListN.{length}
+use Rattle.digits.specs.declared.Number.{Number}
+use Rattle.digits.specs.Digits.{digitsOf}
 use Rattle.price.proofs.Cases as price
+use Rattle.calendar.specs.Calendar.{leap, months, daysIn, daysTo, yearDays, daysBefore, isDate, dayOf}
+use Rattle.moment.specs.Moments.{dateOf, twoOf, minutesOf, clockOf, timeOf, momentOf}
+use Rattle.moment.specs.Ages.{millis, ageOf}
 use Rattle.moment.proofs.Cases as moment
-use Rattle.frame.proofs.Marked.{sums-to-29}
-use Rattle.book.specs.Rules.{Outcome, leaves, breach, applied, afterAction, afterNew, afterChange, afterThru, afterFrom}
+use Rattle.orderid.specs.OrderIds.{isId}
+use Rattle.book.specs.Rules.{leaves, breach, applied, afterAction, afterNew, afterChange, afterThru, afterFrom}
 use Rattle.book.specs.declared.Entry.{Entry}
-use Rattle.message.specs.Message.{Message}
-use Rattle.board.specs.Board.{Board, Out, opened, anyWaiting, look}
+use Rattle.message.specs.Message.{Message, snapshot}
+use Rattle.board.specs.Board.{Board, Out, anyWaiting, look}
 use Rattle.board.specs.Count.{joining, hit, give, gives, count, number}
 use Rattle.board.specs.Snapshot.{entriesOf, run, after, take, snap}
 use Rattle.board.specs.Feed.{feed}
 use Rattle.board.specs.Calls.{inst}
-use Rattle.quote.specs.Quotes.{quoteNumber}
-use Rattle.quote.specs.declared.Quoted.{Quoted}
-use Rattle.quote.proofs.Cases as quote
+use Rattle.quote.specs.Quotes.{quoteOf}
+use Rattle.opening.specs.Opening.{openAnswer, openStore}
+use Rattle.ask.specs.Ask.{quoteNumber, quoteAnswer}
+use Rattle.writer.specs.Writing.{outAfter}
+use Rattle.send.specs.Send.{message, argumentsFine, pageFor, sentPage, sendOut}
+use Rattle.roundtrip.proofs.Marked.{the-message}
 use Rattle.fields.specs.Messages.{messageIn}
 use Rattle.feed.specs.Feeding.{fed}
-use Rattle.samples.specs.Messages.{first, second, third, at-1, at-2, at-4}
+use Rattle.samples.specs.Messages.{empty-book, first, second, third, at-1, at-2, at-4}
 use Rattle.samples.specs.Says.{bid-1, bid-2, offer-3, first-says, second-says, third-says, shows}
 use Rattle.samples.proofs.Read as read
-use Rattle.promises.specs.Marked.{zero, one, two, three, MarkedCases}
+use Rattle.promises.specs.Marked.{zero, one, two, three, tookEmpty, heardFirst, onTheDay, atOne, HeardAtOne, QuotedWith, Writes, MarkedCases}
+use Rattle.promises.specs.Acts.{feeds}
+use Rattle.promises.proofs.Recovery.{Holds, starts}
+use Rattle.promises.proofs.Recovery as recovery
 
 -- ---- M6 to M10 on a side of the list
 m6 : (a b c x : Entry) → afterNew (a ∷ b ∷ c ∷ []) 2 x ≡ leaves (a ∷ x ∷ b ∷ c ∷ [])
@@ -128,6 +139,59 @@ m12-book : inst 7 (fed at-2 three .board) .book ≡ record { bids = bid-2 ∷ []
 unfolding applied afterAction afterNew afterChange anyWaiting look joining hit give gives count number entriesOf run after take snap feed
 m12-book = ap (λ (o : Out). inst 7 (o .board) .book) (shown-fed at-2 (shows 2 bid-2) read.says-at-2)
 
+-- ---- M13 and M14: the store's boards once it took the empty book, and once it heard message 1
+abbrev empty-says : Message
+empty-says = snapshot (record { number = 1; heard = 64968180540000; id = 7; last = 0; loops = 1 }) []
+
+abbrev took : Board
+took = feed empty-says zero .board
+
+abbrev heard : Board
+heard = feed first-says took .board
+
+module _ (xs : List ℕ) (e : openAnswer 0 (7 ∷ []) xs ≡ 0) where
+  holds-took : Holds 0 (tookEmpty xs) took
+  holds-took = rw read.says-empty at (recovery.after 0 (feeds empty-book) (openStore 0 (7 ∷ []) xs) zero (starts 0 (7 ∷ []) xs e))
+
+  holds-heard : Holds 0 (heardFirst xs) heard
+  holds-heard = rw read.says-first at (recovery.after 0 (feeds first) (tookEmpty xs) took holds-took)
+
+-- the quote of a store is its board's
+quoted-as : (n : ℕ) (time : List ℕ) → quoteNumber (quoteOf 7 (onTheDay time) 30 heard) ≡ n → QuotedWith n time
+unfolding quoteAnswer
+quoted-as n time q xs room e l = let h = holds-heard xs e in rw (h .sound, le-leb 17 (length room) l, h .same) q
+
+m13-quoted : quoteNumber (quoteOf 7 (onTheDay (49 ∷ 51 ∷ 58 ∷ 48 ∷ 48 ∷ 58 ∷ 51 ∷ 48 ∷ 46 ∷ 48 ∷ 48 ∷ 48 ∷ [])) 30 heard) ≡ 0
+unfolding applied afterAction afterNew anyWaiting look joining hit give gives count number entriesOf run after take snap feed quoteOf ageOf millis momentOf dateOf timeOf clockOf minutesOf twoOf digitsOf isDate dayOf leap months daysIn daysTo yearDays daysBefore
+m13-quoted = refl
+
+m13-old : quoteNumber (quoteOf 7 (onTheDay (49 ∷ 51 ∷ 58 ∷ 48 ∷ 48 ∷ 58 ∷ 51 ∷ 48 ∷ 46 ∷ 48 ∷ 48 ∷ 49 ∷ [])) 30 heard) ≡ 24
+unfolding applied afterAction afterNew anyWaiting look joining hit give gives count number entriesOf run after take snap feed quoteOf ageOf millis momentOf dateOf timeOf clockOf minutesOf twoOf digitsOf isDate dayOf leap months daysIn daysTo yearDays daysBefore
+m13-old = refl
+
+m13-ahead : quoteNumber (quoteOf 7 (onTheDay (49 ∷ 50 ∷ 58 ∷ 53 ∷ 57 ∷ 58 ∷ 53 ∷ 57 ∷ 46 ∷ 57 ∷ 57 ∷ 57 ∷ [])) 30 heard) ≡ 23
+unfolding applied afterAction afterNew anyWaiting look joining hit give gives count number entriesOf run after take snap feed quoteOf ageOf millis momentOf dateOf timeOf clockOf minutesOf twoOf digitsOf isDate dayOf leap months daysIn daysTo yearDays daysBefore
+m13-ahead = refl
+
+one-is : momentOf atOne ≡ Number.Is 64968180540000
+unfolding momentOf dateOf timeOf clockOf minutesOf twoOf digitsOf isDate dayOf leap months daysIn daysTo yearDays daysBefore
+one-is = refl
+
+m13-heard : HeardAtOne
+unfolding applied afterAction afterNew anyWaiting look joining hit give gives count number entriesOf run after take snap feed
+m13-heard xs e = one-is ∙ sym (ap (λ (b : Board). Number.Is (b .heard)) (holds-heard xs e .same))
+
+-- the page of that board is the message
+page-is : pageFor (Number.Is 64968180540000) 7 (83 ∷ 72 ∷ 69 ∷ 68 ∷ []) (89 ∷ 65 ∷ 82 ∷ 68 ∷ []) 1 1 took ≡ message empty-book
+unfolding applied afterAction afterNew anyWaiting look joining hit give gives count number entriesOf run after take snap feed argumentsFine isId
+page-is = ap message the-message
+
+m14-written : Writes empty-book
+unfolding sendOut sentPage outAfter
+m14-written xs room e l =
+    let h = holds-took xs e in
+    rw (h .sound, one-is, h .same, page-is, le-leb 110 (length room) l)
+
 pub marked-cases : MarkedCases
 marked-cases =
     record {
@@ -156,8 +220,11 @@ marked-cases =
       m12-above = m12-above;
       m12-taken = m12-taken;
       m12-book = m12-book;
-      m13-quoted = λ b i d h. quote.m13-at-the-limit b i d (h .followed) (h .live) (h .some) (h .heard);
-      m13-old = λ b i d h. ap quoteNumber (quote.m13-past-it b i d (h .followed) (h .live) (h .some) (h .heard));
-      m13-ahead = λ b i d h. ap quoteNumber (quote.m13-before b i d (h .followed) (h .live) (h .some) (h .heard));
-      m14 = sums-to-29;
+      m13-heard = m13-heard;
+      m13-quoted = quoted-as 0 _ m13-quoted;
+      m13-old = quoted-as 24 _ m13-old;
+      m13-ahead = quoted-as 23 _ m13-ahead;
+      m14-written = m14-written;
+      m14-length = read.sized;
+      m14-sum = refl;
     }

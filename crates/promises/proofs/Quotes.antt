@@ -5,7 +5,7 @@ use mathlib.Core.List.{List, map}
 use Prim.Native.Nat.{ℕ, zero, suc, _*_}
 use native.Mathlib.Omega.{arith}
 use lib.Dec.{leb, eqb}
-use lib.IntN.{ℤ, pos}
+use lib.IntN.{pos}
 use lib.Signed.{ltZ}
 use lib.ListN.{length}
 use lib.Seq.{sets}
@@ -18,10 +18,9 @@ use Rattle.board.specs.Ranges.{idFine}
 use Rattle.store.specs.Meaning.{boardAt}
 use Rattle.sound.specs.Sound.{sound}
 use Rattle.opening.specs.Opening.{openStore}
-use Rattle.quote.specs.Quotes.{mostLimit, topOf, given, agedBy, quoteAt, atNow, quoteOf, quoteNumber}
+use Rattle.quote.specs.Quotes.{mostLimit, given, quoteAt, atNow, quoteOf}
 use Rattle.quote.specs.declared.Quoted.{Quoted}
-use Rattle.quote.specs.declared.Quote.{Quote}
-use Rattle.ask.specs.Ask.{quoteSize, quoteWords, quotedRoom, quotedOf, quoteAnswer, quoteOut}
+use Rattle.ask.specs.Ask.{quoteSize, quoteNumber, quoteValues, quoteAnswer, quoteOut}
 use Rattle.book.specs.Rules.{leaves}
 use Rattle.board.specs.Demand.{bookAt, Right}
 use Rattle.board.proofs.Staying.{same-calls}
@@ -60,7 +59,7 @@ module _ (i : ℕ) (now : List ℕ) (limit : ℕ) (b : Board) (t : ℕ) (m : mom
           record { time = t; asked = m; live = pw; some = pz; since = ps; within = pl; said = refl }
 
 pub given-of : (id : ℕ) (now : List ℕ) (limit : ℕ) (out xs : List ℕ) → quoteAnswer id now limit out xs ≡ 0
-    → Given (look id (boardAt xs .insts)) now limit (boardAt xs) (quotedOf id now limit out xs)
+    → Given (look id (boardAt xs .insts)) now limit (boardAt xs) (quoteOf id now limit (boardAt xs))
 unfolding quoteAnswer quoteOf
 given-of id now limit out xs = go (sound xs) (leb quoteSize (length out)) (momentOf now) refl
   where
@@ -75,8 +74,8 @@ given-of id now limit out xs = go (sound xs) (leb quoteSize (length out)) (momen
     fine true t m e = at-time i now limit b t m e
     fine false t m e = no e
 
-    go : (s r : Bool) (n : Number) → momentOf now ≡ n → quoteNumber (cond s (cond r (atNow n id limit b) Quoted.BadArgument) Quoted.Unsound) ≡ 0
-        → Given i now limit b (cond s (cond r (atNow n id limit b) Quoted.BadArgument) Quoted.Unsound)
+    go : (s r : Bool) (n : Number) → momentOf now ≡ n → cond s (cond r (quoteNumber (atNow n id limit b)) 18) 17 ≡ 0
+        → Given i now limit b (atNow n id limit b)
     go false r n m e = no e
     go true false n m e = no e
     go true true Number.No m e = no e
@@ -85,10 +84,10 @@ given-of id now limit out xs = go (sound xs) (leb quoteSize (length out)) (momen
 -- ---- and then it is dated
 dated : (depth : ℕ) (stream : List (List ℕ)) (d : ℕ) (now : List ℕ) (limit : ℕ) (out : List ℕ) (b : Board) (q : Quoted) → b .depth ≡ depth
     → Given (look d (b .insts)) now limit b q → Heard (readIn depth stream) b → bookAt (readIn depth stream) d (b .H) ≡ leaves (inst d b .book)
-    → Dated depth stream d now limit out (quotedRoom (b .depth) q out)
+    → Dated depth stream d now limit out (sets out 0 (quoteValues (b .depth) q))
 dated depth stream d now limit out b q kind g heard book = go (b .H) refl
   where
-    go : (h : ℕ) → b .H ≡ h → Dated depth stream d now limit out (quotedRoom (b .depth) q out)
+    go : (h : ℕ) → b .H ≡ h → Dated depth stream d now limit out (sets out 0 (quoteValues (b .depth) q))
     go zero e = absurd (true≢false (ap (λ (n : ℕ). eqb n 0) (sym e) ∙ g .some))
     go (suc k) e =
         let (us, m) = heard k e in
@@ -115,7 +114,8 @@ quotes-are-dated depth stream n d w ids xs e cs p now limit out a =
     let q = ends depth cs s (opened depth ids) h in
     let g = given-of d now limit out ys a in
     let r = along depth (Supposed depth stream d) (Right (readIn depth stream) d) (right-of depth stream d) cs s (opened depth ids) h p in
-    dated depth stream d now limit out (boardAt ys) (quotedOf d now limit out ys)
+    rw a
+    (dated depth stream d now limit out (boardAt ys) (quoteOf d now limit (boardAt ys))
     (ap (λ (b : Board). b .depth) q ∙ same-calls (map (callOf depth) cs) (opened depth ids) .depth) g
     (rw q (heard-after (readIn depth stream) n d depth ids (map (callOf depth) cs) r))
-    (recovers-stream depth stream n d w ids xs e cs p (g .live))
+    (recovers-stream depth stream n d w ids xs e cs p (g .live)))

@@ -4,3 +4,4 @@ pub mod Hut
 pub mod Marked
 pub mod Quotes
 pub mod RoundTrip
+pub mod Refusals

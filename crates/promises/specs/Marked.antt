@@ -1,27 +1,28 @@
 -- The marked cases of document 01, M1 to M14, in one statement over the definitions that the contracts cite.
 use mathlib.Core.Path.{_≡_}
-use mathlib.Core.Bool.{false}
 use mathlib.Core.List.{List, [], _∷_}
-use Prim.Native.Nat.{ℕ, _+_, _*_, _%_, _<_}
+use Prim.Native.Nat.{ℕ, _%_, _≤_}
 use lib.IntN.{pos, negsuc}
-use lib.ListN.{length}
+use lib.ListN.{length, take}
+use lib.Seq.{sets}
 use Rattle.digits.specs.declared.Number.{Number}
 use Rattle.price.specs.Price.{priceOf}
 use Rattle.price.specs.declared.Priced.{Priced}
-use Rattle.moment.specs.Moments.{dateOf, timeOf, span}
+use Rattle.moment.specs.Moments.{dateOf, momentOf}
 use Rattle.frame.specs.Frames.{total}
 use Rattle.book.specs.Rules.{leaves, breach, afterNew, afterThru, afterFrom}
 use Rattle.book.specs.declared.Entry.{Entry}
 use Rattle.message.specs.Message.{refused}
 use Rattle.message.specs.declared.Refusal.the-variants.{BadFields}
-use Rattle.board.specs.Board.{Board, Out, opened, at}
+use Rattle.board.specs.Board.{Board, opened}
 use Rattle.board.specs.Calls.{inst}
 use Rattle.fields.specs.Messages.{messageIn}
-use Rattle.feed.specs.Feeding.{fed}
-use Rattle.quote.specs.Quotes.{given, quoteAt, quoteNumber}
-use Rattle.quote.specs.declared.Quoted.{Quoted}
-use Rattle.frame.specs.Marked.{before-ten}
-use Rattle.samples.specs.Messages.{point-alone, eight-decimals, first, second, third, at-1, at-2, at-4}
+use Rattle.store.specs.Meaning.{boardAt}
+use Rattle.opening.specs.Opening.{openAnswer, openStore}
+use Rattle.feed.specs.Feeding.{fed, feedStore}
+use Rattle.ask.specs.Ask.{quoteSize, quoteAnswer}
+use Rattle.send.specs.Send.{sendOut}
+use Rattle.samples.specs.Messages.{empty-book, point-alone, eight-decimals, first, second, third, at-1, at-2, at-4}
 use Rattle.samples.specs.Says.{bid-2, offer-3}
 
 -- M11: a fresh board that follows 7, and what three messages leave of it.
@@ -37,12 +38,36 @@ two = fed third one .board
 abbrev pub three : Board
 three = fed second two .board
 
--- M13: board b follows and has the instrument at index i Live, and heard its last message at 13:00:00.000 of day d.
-pub record HeardAtOne (b : Board) (i d : ℕ) : Type 0 where
-  pub followed : i < length (b .insts)
-  pub live : at i b .waiting ≡ false
-  pub some : b .H ≡ 0 → ⊥
-  pub heard : b .heard ≡ d * span + 47580000
+-- M13 and M14: any store that opening takes for 7, once it has taken the empty book, and once it has then heard message 1, which
+-- was sent at 13:00:00.000.
+abbrev pub tookEmpty : List ℕ → List ℕ
+tookEmpty xs = feedStore empty-book (openStore 0 (7 ∷ []) xs)
+
+abbrev pub heardFirst : List ℕ → List ℕ
+heardFirst xs = feedStore first (tookEmpty xs)
+
+-- A moment of the day 20250103, shaped as tag 52.
+abbrev pub onTheDay : List ℕ → List ℕ
+onTheDay time = 50 ∷ 48 ∷ 50 ∷ 53 ∷ 48 ∷ 49 ∷ 48 ∷ 51 ∷ 45 ∷ time
+
+-- 13:00:00.000 of it.
+abbrev pub atOne : List ℕ
+atOne = onTheDay (49 ∷ 51 ∷ 58 ∷ 48 ∷ 48 ∷ 58 ∷ 48 ∷ 48 ∷ 46 ∷ 48 ∷ 48 ∷ 48 ∷ [])
+
+-- M13: what is heard is that moment; with a limit of 30, a quote of 7 at a time of that day is answered n.
+abbrev pub HeardAtOne : Type 0
+HeardAtOne = (xs : List ℕ) → openAnswer 0 (7 ∷ []) xs ≡ 0 → momentOf atOne ≡ Number.Is (boardAt (heardFirst xs) .heard)
+
+abbrev pub QuotedWith : ℕ → List ℕ → Type 0
+QuotedWith n time =
+    (xs room : List ℕ) → openAnswer 0 (7 ∷ []) xs ≡ 0 → quoteSize ≤ length room → quoteAnswer 7 (onTheDay time) 30 room (heardFirst xs) ≡ n
+
+-- M14: a writing of 7 from SHED to YARD, 1 of 1, at 13:00:00.000, leaves these bytes in the room.
+abbrev pub Writes : List ℕ → Type 0
+Writes bytes =
+    (xs room : List ℕ) → openAnswer 0 (7 ∷ []) xs ≡ 0 → length bytes ≤ length room
+    → sendOut 7 (83 ∷ 72 ∷ 69 ∷ 68 ∷ []) (89 ∷ 65 ∷ 82 ∷ 68 ∷ []) 1 1 atOne room (tookEmpty xs)
+    ≡ sets room 0 bytes
 
 pub record MarkedCases : Type 0 where
   -- 24.01 is 240100000
@@ -83,8 +108,11 @@ pub record MarkedCases : Type 0 where
   pub m12-taken : fed at-2 three .answer ≡ 4
   pub m12-book : inst 7 (fed at-2 three .board) .book ≡ record { bids = bid-2 ∷ []; offers = offer-3 ∷ [] }
   -- heard 13:00:00.000, limit 30: 13:00:30.000 quoted, 13:00:30.001 is 24, 12:59:59.999 is 23
-  pub m13-quoted : (b : Board) (i d : ℕ) → HeardAtOne b i d → quoteAt i (d * span + 47610000) 30 b ≡ Quoted.Is (given b (at i b))
-  pub m13-old : (b : Board) (i d : ℕ) → HeardAtOne b i d → quoteNumber (quoteAt i (d * span + 47610001) 30 b) ≡ 24
-  pub m13-ahead : (b : Board) (i d : ℕ) → HeardAtOne b i d → quoteNumber (quoteAt i (d * span + 47578999) 30 b) ≡ 23
-  -- the message for an empty book sums to 29
-  pub m14 : total before-ten % 256 ≡ 29
+  pub m13-heard : HeardAtOne
+  pub m13-quoted : QuotedWith 0 (49 ∷ 51 ∷ 58 ∷ 48 ∷ 48 ∷ 58 ∷ 51 ∷ 48 ∷ 46 ∷ 48 ∷ 48 ∷ 48 ∷ [])
+  pub m13-old : QuotedWith 24 (49 ∷ 51 ∷ 58 ∷ 48 ∷ 48 ∷ 58 ∷ 51 ∷ 48 ∷ 46 ∷ 48 ∷ 48 ∷ 49 ∷ [])
+  pub m13-ahead : QuotedWith 23 (49 ∷ 50 ∷ 58 ∷ 53 ∷ 57 ∷ 58 ∷ 53 ∷ 57 ∷ 46 ∷ 57 ∷ 57 ∷ 57 ∷ [])
+  -- the message for an empty book is what the writer writes; it has 110 bytes, and those before tag 10 sum to 29
+  pub m14-written : Writes empty-book
+  pub m14-length : length empty-book ≡ 110
+  pub m14-sum : total (take 103 empty-book) % 256 ≡ 29

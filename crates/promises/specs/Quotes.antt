@@ -16,7 +16,8 @@ use Rattle.message.specs.Message.{numbered}
 use Rattle.board.specs.Demand.{messageAt, NumberedFromOne, NeverBreaks, bookAt}
 use Rattle.opening.specs.Opening.{openAnswer, openStore}
 use Rattle.quote.specs.Quotes.{topOf}
-use Rattle.ask.specs.Ask.{quoteWords, quoteAnswer, quoteOut}
+use Rattle.quote.specs.declared.Quoted.{Quoted}
+use Rattle.ask.specs.Ask.{quoteValues, quoteAnswer, quoteOut}
 use Rattle.promises.specs.Acts.{Act, lefts, Along}
 use Rattle.promises.specs.Recovery.{readIn, Supposed}
 
@@ -31,7 +32,10 @@ pub record Dated (depth : ℕ) (stream : List (List ℕ)) (d : ℕ) (now : List 
   pub book : Lists
   pub streamed : bookAt (readIn depth stream) d (suc k) ≡ leaves book
   -- is what stands in the room
-  pub room : ys ≡ sets out 0 (quoteWords depth (record { number = suc k; heard = heard; bid = topOf (book .bids); offer = topOf (book .offers) }))
+  pub room :
+      ys
+      ≡ sets out 0
+      (quoteValues depth (Quoted.Is (record { number = suc k; heard = heard; bid = topOf (book .bids); offer = topOf (book .offers) })))
   -- and its age lies in 0 to the limit, in milliseconds
   pub time : ℕ
   pub asked : momentOf now ≡ Number.Is time

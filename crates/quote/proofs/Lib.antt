@@ -1,3 +1,2 @@
 pub mod Tops
 pub mod Asked
-pub mod Cases

@@ -1,8 +1,8 @@
 -- A dated quote (document 01, "Quote and writing").
 use Prim.Native.Nat.{ℕ, _*_}
 use mathlib.Core.List.{List, [], _∷_}
-use mathlib.Core.Bool.{Bool, true, false, cond, not, _&&_, _||_}
-use lib.Dec.{ltb, leb, eqb}
+use mathlib.Core.Bool.{cond, _&&_}
+use lib.Dec.{leb, eqb}
 use lib.IntN.{ℤ, pos}
 use lib.Signed.{ltZ}
 use lib.ListN.{length}
@@ -48,14 +48,3 @@ atNow (Number.Is now) id limit b =
 
 unfoldable pub quoteOf : ℕ → List ℕ → ℕ → Board → Quoted
 quoteOf id now limit b = atNow (momentOf now) id limit b
-
--- Document 01's number of each case.
-abbrev pub quoteNumber : Quoted → ℕ
-quoteNumber (Quoted.Is q) = 0
-quoteNumber Quoted.Unsound = 17
-quoteNumber Quoted.BadArgument = 18
-quoteNumber Quoted.NotFollowed = 20
-quoteNumber Quoted.Waiting = 21
-quoteNumber Quoted.NothingHeard = 22
-quoteNumber Quoted.BeforeHeard = 23
-quoteNumber Quoted.TooOld = 24

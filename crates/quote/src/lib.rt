@@ -3,14 +3,12 @@ use book::Entry;
 use digits::Number;
 use heading::Heading;
 ghost use mathlib.Core.Path.{_≡_};
-ghost use mathlib.Core.Bool.{true};
 ghost use Prim.Native.Nat.{_+_, _≤_, _<_};
 ghost use lib.ListN.{length};
 ghost use Rattle.book.specs.Canonical.{heldIn};
 ghost use Rattle.cells.specs.Cells.{sideAt};
 ghost use Rattle.store.specs.Meaning.{st, boardIn};
 ghost use Rattle.moment.specs.Moments.{moments};
-ghost use Rattle.board.specs.Sound.{heardFine};
 ghost use Rattle.quote.specs.Quotes.{topOf, agedBy, quoteAt, quoteOf};
 ghost use Rattle.quote.specs.Ready.{Ready};
 
@@ -28,10 +26,9 @@ pub struct Quote {
     pub offer: Top,
 }
 
-// A quote, or why there is none: 17, 18, 20, 21, 22, 23, 24.
+// A quote, or why there is none: 18, 20, 21, 22, 23, 24.
 pub enum Quoted {
     Is(Quote),
-    Unsound,
     BadArgument,
     NotFollowed,
     Waiting,

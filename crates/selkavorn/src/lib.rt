@@ -1,10 +1,9 @@
 // The functions that a C program calls; include/selkavorn.h says what each takes. None of them asks anything of its caller
 // beyond what C asks of a pointer and a length.
-ghost use mathlib.Core.Path.{_≡_};
 ghost use Rattle.opening.specs.Opening.{Opened};
 ghost use Rattle.feed.specs.Feeding.{Fed};
-ghost use Rattle.ask.specs.Ask.{quoteAnswer, quoteOut, stateAnswer, stateOut};
-ghost use Rattle.send.specs.Send.{sendAnswer, sendOut};
+ghost use Rattle.ask.specs.Ask.{Asked, Stated};
+ghost use Rattle.send.specs.Send.{Sent};
 
 // Opens a store for a depth kind (0 order depth, 1 price depth) and SecurityIDs.
 #[no_mangle]
@@ -31,8 +30,7 @@ pub extern "C" fn selkavorn_quote(
     limit: u64,
     out: &mut [u64],
 ) -> u64
-    ensures { λ r. ⌜ r ≡ quoteAnswer id (now (time .entry)) limit (now (out .entry)) (now (store .entry)) ⌝ }
-    ensures { λ r. ⌜ now (out .exit) ≡ quoteOut id (now (time .entry)) limit (now (out .entry)) (now (store .entry)) ⌝ }
+    ensures { λ r. ⌜ Asked id (now (time .entry)) limit (now (out .entry)) (now (store .entry)) r (now (out .exit)) ⌝ }
 {
     ask::quote(store, id, time, limit, out)
 }
@@ -49,8 +47,7 @@ pub extern "C" fn selkavorn_write(
     time: &[u8],
     out: &mut [u8],
 ) -> u64
-    ensures { λ r. ⌜ r ≡ sendAnswer id (now (sender .entry)) (now (target .entry)) k m (now (time .entry)) (now (out .entry)) (now (store .entry)) ⌝ }
-    ensures { λ r. ⌜ now (out .exit) ≡ sendOut id (now (sender .entry)) (now (target .entry)) k m (now (time .entry)) (now (out .entry)) (now (store .entry)) ⌝ }
+    ensures { λ r. ⌜ Sent id (now (sender .entry)) (now (target .entry)) k m (now (time .entry)) (now (out .entry)) (now (store .entry)) r (now (out .exit)) ⌝ }
 {
     send::write(store, id, sender, target, k, m, time, out)
 }
@@ -58,8 +55,7 @@ pub extern "C" fn selkavorn_write(
 // Says why an instrument waits, as 4 numbers in out: Waiting 1 or 0, the reason, bids held, offers held.
 #[no_mangle]
 pub extern "C" fn selkavorn_state(store: &[u64], id: u64, out: &mut [u64]) -> u64
-    ensures { λ r. ⌜ r ≡ stateAnswer id (now (out .entry)) (now (store .entry)) ⌝ }
-    ensures { λ r. ⌜ now (out .exit) ≡ stateOut id (now (out .entry)) (now (store .entry)) ⌝ }
+    ensures { λ r. ⌜ Stated id (now (out .entry)) (now (store .entry)) r (now (out .exit)) ⌝ }
 {
     ask::state(store, id, out)
 }

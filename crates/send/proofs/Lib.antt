@@ -1,3 +1,4 @@
 pub mod Lengths
 pub mod Facts
 pub mod Pages
+pub mod Laws

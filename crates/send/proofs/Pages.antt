@@ -1,5 +1,5 @@
 -- A writing's tests as the code makes them, and the bound of its answer.
-use mathlib.Core.Path.{_≡_, ap, _∙_}
+use mathlib.Core.Path.{_≡_, sym, ap, _∙_}
 use mathlib.Core.Bool.{Bool, true, false, cond}
 use mathlib.Core.List.{List}
 use Prim.Native.Nat.{ℕ, _≤_, _<_}
@@ -21,7 +21,7 @@ use Rattle.sound.specs.Sound.{sound}
 use Rattle.writer.specs.declared.Written.{Written}
 use Rattle.writer.specs.Snapshot.{Letter}
 use Rattle.writer.specs.Writing.{letter, pageOf, Ready, writtenOf}
-use Rattle.send.specs.Send.{message, refusal, argumentsFine, pageAt, sentPage}
+use Rattle.send.specs.Send.{Page, message, refusal, argumentsFine, pageAt, sentPage, pageAnswer, pageOut, sendAnswer, sendOut, Sent}
 use Rattle.send.proofs.Lengths.{snapshot-most}
 
 -- ---- the answer fits
@@ -67,6 +67,12 @@ module _ (s : State) (i : ℕ) (l : Letter) (id : ℕ) where
 -- ---- the arguments
 
 module _ (id : ℕ) (sender target : List ℕ) (k m : ℕ) (time xs : List ℕ) where
+  -- what is said of the page is said of the call
+  pub sent : (room : List ℕ) (p : Page) → sentPage id sender target k m time xs ≡ p
+      → Sent id sender target k m time room xs (pageAnswer p room) (pageOut p room)
+  unfolding sendAnswer sendOut
+  sent room p e = record { answer = sym (ap (λ (q : Page). pageAnswer q room) e); out = sym (ap (λ (q : Page). pageOut q room) e) }
+
   pub unsound : sound xs ≡ false → sentPage id sender target k m time xs ≡ refusal 17
   unfolding sentPage
   unsound s = rw s

@@ -1,1 +1,2 @@
 pub mod Send
+pub mod Laws

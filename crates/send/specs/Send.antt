@@ -1,4 +1,5 @@
 -- A writing (document 01, "Quote and writing"): what a snapshot of an instrument of a store answers, and the bytes that it leaves.
+use mathlib.Core.Path.{_≡_}
 use mathlib.Core.Bool.{Bool, cond, _&&_}
 use mathlib.Core.List.{List}
 use Prim.Native.Nat.{ℕ, _+_, _*_}
@@ -63,3 +64,8 @@ sendAnswer id sender target k m time out xs = pageAnswer (sentPage id sender tar
 
 unfoldable pub sendOut : ℕ → List ℕ → List ℕ → ℕ → ℕ → List ℕ → List ℕ → List ℕ → List ℕ
 sendOut id sender target k m time out xs = pageOut (sentPage id sender target k m time xs) out
+
+-- What a call answers, and what it leaves ys of the room.
+pub record Sent (id : ℕ) (sender target : List ℕ) (k m : ℕ) (time room xs : List ℕ) (r : ℕ) (ys : List ℕ) : Type 0 where
+  pub answer : r ≡ sendAnswer id sender target k m time room xs
+  pub out : ys ≡ sendOut id sender target k m time room xs

@@ -11,7 +11,7 @@ ghost use Rattle.store.specs.Layout.{storeSize};
 ghost use Rattle.store.specs.Meaning.{bookAt, boardAt};
 ghost use Rattle.sound.specs.Sound.{sound};
 ghost use Rattle.writer.specs.Writing.{letter, pageOf, Ready, writtenOf, outAfter};
-ghost use Rattle.send.specs.Send.{argumentsFine, pageAt, writtenNumber, pageAnswer, pageOut, sendAnswer, sendOut};
+ghost use Rattle.send.specs.Send.{argumentsFine, pageAt, writtenNumber, pageAnswer, pageOut, Sent};
 
 // A loop has at most 16 messages.
 const MOST_LOOP: u64 = 16;
@@ -118,8 +118,7 @@ pub fn write(
     time: &[u8],
     out: &mut [u8],
 ) -> u64
-    ensures { λ r. ⌜ r ≡ sendAnswer id (now (sender .entry)) (now (target .entry)) k m (now (time .entry)) (now (out .entry)) (now (store .entry)) ⌝ }
-    ensures { λ r. ⌜ now (out .exit) ≡ sendOut id (now (sender .entry)) (now (target .entry)) k m (now (time .entry)) (now (out .entry)) (now (store .entry)) ⌝ }
+    ensures { λ r. ⌜ Sent id (now (sender .entry)) (now (target .entry)) k m (now (time .entry)) (now (out .entry)) (now (store .entry)) r (now (out .exit)) ⌝ }
 {
     if !sound::sound(store) {
         return store::BAD_STORE;

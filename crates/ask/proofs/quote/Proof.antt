@@ -29,8 +29,8 @@ returns-3 : tie.Need-returns-3
 returns-3 c =
     let x = c .before .before .before .before .before .before .before .before .before .before .args in
     let s = sym (c .before .before .before .before .before .before .sound .ensures) ∙ not-false (c .before .before .before .before .before .before .sound .result) (c .before .before .before .before .before .if1 .left) in
-    let t = asked (x .id) (x .time .now) (x .limit) (x .out .now) (x .store .now) s (c .before .before .before .before .if2 .left) in
-    (c .before .before .quote-into .ensures .0 ∙ sym (t .0), c .before .before .quote-into .ensures .1 ∙ sym (t .1))
+    let t = asked (x .id) (x .time .now) (x .limit) (x .out .now) (x .store .now) s (c .before .before .before .before .if2 .left) _ (c .before .before .quote-into .ensures .0) in
+    record { answer = t .answer; out = c .before .before .quote-into .ensures .1 ∙ t .out }
 
 pub quote-spec : {M : Type 1} → statement M
 quote-spec =

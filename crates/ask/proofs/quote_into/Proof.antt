@@ -2,7 +2,8 @@
 use mathlib.Core.Path.{_≡_, sym, ap, _∙_, subst}
 use Rattle.heading.specs.declared.Heading.{Heading}
 use Rattle.store.specs.Meaning.{boardOf, boardAt}
-use Rattle.quote.specs.Quotes.{quoteOf, quoteNumber}
+use Rattle.quote.specs.Quotes.{quoteOf}
+use Rattle.ask.specs.Ask.{quoteNumber}
 use Rattle.ask.specs.Fine.{FineQuoted}
 use Rattle.sound.proofs.Readers.{formed, board, marks}
 use Rattle.ask.proofs.Facts.{ready}

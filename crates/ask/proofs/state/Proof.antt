@@ -74,7 +74,7 @@ returns-5 c =
     let n = insts-length (loaded (x .store .now)) in
     let k : look (x .id) (boardAt (x .store .now) .insts) < length (boardAt (x .store .now) .insts) = rw (n, ← e) (rw h at (c .before .before .before .before .if4 .left)) in
     let t = stated (x .id) (x .out .now) (x .store .now) s (c .before .before .before .before .before .before .before .before .before .if2 .left) (inside 1 999999999999999999 (x .id) (c .before .before .before .before .before .before .before .before .if3 .left)) k in
-    (t .0, c .before .before .put-state .ensures ∙ rw (h, e) (t .1))
+    record { answer = t .answer; out = c .before .before .put-state .ensures ∙ rw (h, e) (t .out) }
 
 pub state-spec : {M : Type 1} → statement M
 state-spec =

@@ -1,8 +1,7 @@
 -- `tell` meets its contract: a quote is written, a refusal writes nothing.
 use mathlib.Core.Path.{sym, ap, _∙_, subst}
-use Rattle.quote.specs.Quotes.{quoteNumber}
 use Rattle.quote.specs.declared.Quoted.{Quoted}
-use Rattle.ask.specs.Ask.{quotedRoom}
+use Rattle.ask.specs.Ask.{roomAfter, quoteNumber, quoteValues}
 use Rattle.ask.specs.Fine.{FineQuoted}
 use borrow.Author.Needs.{needs}
 use Rattle.ask.proofs.tell.Statement.{statement}
@@ -21,49 +20,43 @@ returns : tie.Need-returns
 returns c =
     let x = c .before .before .before .before .before .before .before .before .args in
     let e = c .before .before .before .before .before .q .given .1 in
-    (ap quoteNumber (sym e), c .before .before .put-quote .ensures ∙ ap (λ (q : Quoted). quotedRoom (x .depth) q (x .out .now)) (sym e))
+    (ap quoteNumber (sym e), c .before .before .put-quote .ensures ∙ ap (λ (q : Quoted). roomAfter 0 (quoteValues (x .depth) q) (x .out .now)) (sym e))
 
 enum-told : tie.Need-enum-told
 enum-told c = search needs
 
 returns-2 : tie.Need-returns-2
-returns-2 c = let e = c .enum-told .given .1 in (ap quoteNumber (sym e), ap (λ (q : Quoted). quotedRoom (c .before .before .before .args .depth) q (c .before .before .before .args .out .now)) (sym e))
+returns-2 c = (ap quoteNumber (sym (c .enum-told .given .1)), search needs)
 
 enum-told-2 : tie.Need-enum-told-2
 enum-told-2 c = search needs
 
 returns-3 : tie.Need-returns-3
-returns-3 c = let e = c .enum-told2 .given .1 in (ap quoteNumber (sym e), ap (λ (q : Quoted). quotedRoom (c .before .before .before .args .depth) q (c .before .before .before .args .out .now)) (sym e))
+returns-3 c = (ap quoteNumber (sym (c .enum-told2 .given .1)), search needs)
 
 enum-told-3 : tie.Need-enum-told-3
 enum-told-3 c = search needs
 
 returns-4 : tie.Need-returns-4
-returns-4 c = let e = c .enum-told3 .given .1 in (ap quoteNumber (sym e), ap (λ (q : Quoted). quotedRoom (c .before .before .before .args .depth) q (c .before .before .before .args .out .now)) (sym e))
+returns-4 c = (ap quoteNumber (sym (c .enum-told3 .given .1)), search needs)
 
 enum-told-4 : tie.Need-enum-told-4
 enum-told-4 c = search needs
 
 returns-5 : tie.Need-returns-5
-returns-5 c = let e = c .enum-told4 .given .1 in (ap quoteNumber (sym e), ap (λ (q : Quoted). quotedRoom (c .before .before .before .args .depth) q (c .before .before .before .args .out .now)) (sym e))
+returns-5 c = (ap quoteNumber (sym (c .enum-told4 .given .1)), search needs)
 
 enum-told-5 : tie.Need-enum-told-5
 enum-told-5 c = search needs
 
 returns-6 : tie.Need-returns-6
-returns-6 c = let e = c .enum-told5 .given .1 in (ap quoteNumber (sym e), ap (λ (q : Quoted). quotedRoom (c .before .before .before .args .depth) q (c .before .before .before .args .out .now)) (sym e))
+returns-6 c = (ap quoteNumber (sym (c .enum-told5 .given .1)), search needs)
 
 enum-told-6 : tie.Need-enum-told-6
 enum-told-6 c = search needs
 
 returns-7 : tie.Need-returns-7
-returns-7 c = let e = c .enum-told6 .given .1 in (ap quoteNumber (sym e), ap (λ (q : Quoted). quotedRoom (c .before .before .before .args .depth) q (c .before .before .before .args .out .now)) (sym e))
-
-enum-told-7 : tie.Need-enum-told-7
-enum-told-7 c = search needs
-
-returns-8 : tie.Need-returns-8
-returns-8 c = let e = c .enum-told7 .given .1 in (ap quoteNumber (sym e), ap (λ (q : Quoted). quotedRoom (c .before .before .before .args .depth) q (c .before .before .before .args .out .now)) (sym e))
+returns-7 c = (ap quoteNumber (sym (c .enum-told6 .given .1)), search needs)
 
 pub tell-spec : {M : Type 1} → statement M
 tell-spec =
@@ -84,6 +77,4 @@ tell-spec =
     enum-told-5
     returns-6
     enum-told-6
-    returns-7
-    enum-told-7
-    returns-8)
+    returns-7)

@@ -1,0 +1,33 @@
+-- A refused call changes neither store nor output (document 01, "Answer numbers"): over the contracts of the five exported functions.
+use mathlib.Core.Path.{_≡_}
+use mathlib.Core.Bool.{Bool, false}
+use mathlib.Core.List.{List}
+use Prim.Native.Nat.{ℕ, _%_}
+use lib.Dec.{eqb}
+use Rattle.board.specs.Calls.{changes}
+use Rattle.sound.specs.Settled.{Allowed}
+use Rattle.opening.specs.Opening.{Opened}
+use Rattle.feed.specs.Feeding.{Fed}
+use Rattle.ask.specs.Ask.{Asked, Stated}
+use Rattle.ask.specs.Laws.{RefusedCarriesZeros}
+use Rattle.send.specs.Send.{Sent}
+
+-- Document 01's number is the answer less the count or length that stands above its 8 bits. Where that number is none of those that
+-- change what was lent, it is what it was.
+abbrev pub Stays : (ℕ → Bool) → Allowed → List ℕ → Type 0
+Stays changing allows lent = (r : ℕ) (ys : List ℕ) → allows r ys → changing (r % 256) ≡ false → ys ≡ lent
+
+-- A quote, writing, state or opening is done with 0.
+abbrev pub isDone : ℕ → Bool
+isDone a = eqb a 0
+
+pub record RefusalsStay : Type 0 where
+  -- only 0, 1, 3, 4 and 10 change the store
+  pub opening : (depth : ℕ) (ids xs : List ℕ) → Stays isDone (Opened depth ids xs) xs
+  pub feeding : (bytes xs : List ℕ) → Stays changes (Fed bytes xs) xs
+  -- and only 0 writes into the output
+  pub quoting : (id : ℕ) (now : List ℕ) (limit : ℕ) (room xs : List ℕ) → Stays isDone (Asked id now limit room xs) room
+  pub writing : (id : ℕ) (sender target : List ℕ) (k m : ℕ) (time room xs : List ℕ) → Stays isDone (Sent id sender target k m time room xs) room
+  pub stating : (id : ℕ) (room xs : List ℕ) → Stays isDone (Stated id room xs) room
+  -- a refused quote carries zeros
+  pub zeros : RefusedCarriesZeros
