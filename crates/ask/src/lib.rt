@@ -182,7 +182,7 @@ pub fn state(store: &[u64], id: u64, out: &mut [u64]) -> u64
     if out.len() < STATE {
         return store::BAD_ARGUMENT;
     }
-    if (id < 1) | (store::MOST_ID < id) {
+    if !book::is_id(id) {
         return store::BAD_ARGUMENT;
     }
     let h = store::load_heading(store);

@@ -8,6 +8,7 @@ use borrow.Author.Tests.{le-leb, lt-leb, eq-eqb, ne-eqb, ltb-true}
 use lib.ListN.{length}
 use Rattle.heading.specs.Marks.{marked}
 use Rattle.board.specs.Board.{Inst, Board, at, look}
+use Rattle.board.specs.Ranges.{idFine}
 use Rattle.board.specs.Sound.{heardFine}
 use Rattle.digits.specs.declared.Number.{Number}
 use Rattle.moment.specs.Moments.{moments, momentOf}
@@ -17,7 +18,7 @@ use Rattle.moment.specs.Ages.{ageOf}
 use Rattle.store.specs.Layout.{bidsOf, offersOf}
 use Rattle.store.specs.Meaning.{State, boardIn, boardOf, instAt}
 use Rattle.store.proofs.Decode.{insts-length, at-board}
-use Rattle.quote.specs.Quotes.{topOf, agedBy, quoteAt, quoteOf}
+use Rattle.quote.specs.Quotes.{mostLimit, topOf, agedBy, quoteAt, quoteOf}
 use Rattle.quote.specs.declared.Quote.{Quote}
 use Rattle.quote.specs.declared.Quoted.{Quoted}
 
@@ -73,18 +74,14 @@ module _ (id time limit : ℕ) (b : Board) (text : List ℕ) where
   no-moment e = rw e
 
   module _ (read : momentOf text ≡ Number.Is time) where
-    pub no-id : id < 1 → quoteOf id text limit b ≡ Quoted.BadArgument
+    pub no-id : idFine id ≡ false → quoteOf id text limit b ≡ Quoted.BadArgument
     unfolding quoteOf
-    no-id h = rw (read, lt-leb 1 id h)
+    no-id e = rw (read, e)
 
-    pub long-id : 1 ≤ id → 999999999999999999 < id → quoteOf id text limit b ≡ Quoted.BadArgument
+    pub long-limit : idFine id ≡ true → mostLimit < limit → quoteOf id text limit b ≡ Quoted.BadArgument
     unfolding quoteOf
-    long-id l h = rw (read, le-leb 1 id l, lt-leb id 999999999999999999 h)
+    long-limit e k = rw (read, e, lt-leb limit mostLimit k)
 
-    pub long-limit : 1 ≤ id → id ≤ 999999999999999999 → 86400 < limit → quoteOf id text limit b ≡ Quoted.BadArgument
+    pub good : idFine id ≡ true → limit ≤ mostLimit → quoteOf id text limit b ≡ quoteAt (look id (b .insts)) time limit b
     unfolding quoteOf
-    long-limit l h k = rw (read, le-leb 1 id l, le-leb id 999999999999999999 h, lt-leb limit 86400 k)
-
-    pub good : 1 ≤ id → id ≤ 999999999999999999 → limit ≤ 86400 → quoteOf id text limit b ≡ quoteAt (look id (b .insts)) time limit b
-    unfolding quoteOf
-    good l h k = rw (read, le-leb 1 id l, le-leb id 999999999999999999 h, le-leb limit 86400 k)
+    good e k = rw (read, e, le-leb limit mostLimit k)

@@ -6,10 +6,10 @@ ghost use mathlib.Core.Path.{_≡_};
 ghost use Prim.Native.Nat.{_+_, _≤_, _<_};
 ghost use lib.ListN.{length};
 ghost use Rattle.book.specs.Canonical.{heldIn};
-ghost use Rattle.cells.specs.Cells.{sideAt};
+ghost use Rattle.cells.specs.Cells.{sideSize, sideAt};
 ghost use Rattle.store.specs.Meaning.{st, boardIn};
 ghost use Rattle.moment.specs.Moments.{moments};
-ghost use Rattle.quote.specs.Quotes.{topOf, agedBy, quoteAt, quoteOf};
+ghost use Rattle.quote.specs.Quotes.{mostLimit, topOf, agedBy, quoteAt, quoteOf};
 ghost use Rattle.quote.specs.Ready.{Ready};
 
 // Place 1 of a side, or that the side is empty.
@@ -41,7 +41,7 @@ pub enum Quoted {
 pub const MOST_LIMIT: u64 = 86400;
 
 fn first_of(store: &[u64], at: usize) -> Top
-    requires { ⌜ at + 101 ≤ length (now store) ⌝ }
+    requires { ⌜ at + sideSize ≤ length (now store) ⌝ }
     ensures { λ r. ⌜ r ≡ topOf (heldIn (sideAt (now (store .entry)) at)) ⌝ }
 {
     if store[at] == 0 {
@@ -53,7 +53,7 @@ fn first_of(store: &[u64], at: usize) -> Top
 
 // Age below 0 is 23, above the limit 24; the limit is in seconds, the age in milliseconds.
 fn aged(age: i64, limit: u64, q: Quote) -> Quoted
-    requires { ⌜ limit ≤ 86400 ⌝ }
+    requires { ⌜ limit ≤ mostLimit ⌝ }
     ensures { λ r. ⌜ r ≡ agedBy age limit q ⌝ }
 {
     if age < 0 {
@@ -68,7 +68,7 @@ fn aged(age: i64, limit: u64, q: Quote) -> Quoted
 
 // The quote of the instrument at index i, or of none.
 fn quote_at(store: &[u64], h: Heading, i: usize, time: u64, limit: u64) -> Quoted
-    requires { ⌜ Ready (st h (now store)) × (i ≤ h .followed) × (time < moments) × (limit ≤ 86400) ⌝ }
+    requires { ⌜ Ready (st h (now store)) × (i ≤ h .followed) × (time < moments) × (limit ≤ mostLimit) ⌝ }
     ensures { λ r. ⌜ r ≡ quoteAt i time limit (boardIn (st h (now (store .entry)))) ⌝ }
 {
     if h.followed <= i {
@@ -99,10 +99,7 @@ pub fn quote_for(store: &[u64], h: Heading, id: u64, time: &[u8], limit: u64) ->
     let Number::Is(t) = moment::moment(time) else {
         return Quoted::BadArgument;
     };
-    if id < 1 {
-        return Quoted::BadArgument;
-    }
-    if store::MOST_ID < id {
+    if !book::is_id(id) {
         return Quoted::BadArgument;
     }
     if MOST_LIMIT < limit {

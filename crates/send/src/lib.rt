@@ -23,7 +23,7 @@ const LENGTHS: u64 = 256;
 fn arguments_fine(id: u64, sender: &[u8], target: &[u8], k: u64, m: u64) -> bool
     ensures { λ r. ⌜ r ≡ argumentsFine id (now (sender .entry)) (now (target .entry)) k m ⌝ }
 {
-    if (id < 1) | (store::MOST_ID < id) {
+    if !book::is_id(id) {
         return false;
     }
     if !writer::id_bytes(sender) {

@@ -2,15 +2,11 @@
 use mathlib.Core.Path.{_≡_, sym, _∙_}
 use Rattle.store.specs.Meaning.{st, boardIn}
 use Rattle.moment.proofs.Bounds.{moment-lt}
-use Rattle.quote.proofs.Asked.{no-moment, no-id, long-id, long-limit, good}
+use Rattle.quote.proofs.Asked.{no-moment, no-id, long-limit, good}
 use borrow.Author.Needs.{needs}
+use borrow.Author.Tests.{not-true, not-false}
 use Rattle.quote.proofs.quote_for.Statement.{statement}
 use Rattle.quote.proofs.quote_for.Tie as tie
-use Rattle.quote.proofs.quote_for.Reads as reads
-use Rattle.quote.proofs.quote_for.Lts as lts
-use Rattle.moment.proofs.moment.Reads as moment-reads
-use Rattle.quote.proofs.quote_at.Reads as quote-at-reads
-use Rattle.store.proofs.find.Reads as find-reads
 
 moment-requires : tie.Need-moment-requires
 moment-requires c κs = search needs
@@ -24,27 +20,27 @@ enum-told c = search needs
 returns : tie.Need-returns
 returns c = let a = c .before .before .before .before .before .args in sym (no-moment (a .id) 0 (a .limit) (boardIn (st (a .h) (a .store .now))) (a .time .now) (sym (c .before .before .moment .ensures) ∙ c .enum-told .given .1))
 
+is-id-requires : tie.Need-is-id-requires
+is-id-requires c κs = search needs
+
 returns-2 : tie.Need-returns-2
-returns-2 c = let a = c .before .before .before .before .before .before .before .args in sym (no-id (a .id) _ (a .limit) (boardIn (st (a .h) (a .store .now))) (a .time .now) (sym (c .before .before .before .before .moment .ensures) ∙ c .before .before .t .given .1) (c .if1 .taken))
+returns-2 c = let a = c .before .before .before .before .before .before .before .before .args in sym (no-id (a .id) _ (a .limit) (boardIn (st (a .h) (a .store .now))) (a .time .now) (sym (c .before .before .before .before .before .moment .ensures) ∙ c .before .before .before .t .given .1) (sym (c .before .is-id .ensures) ∙ not-true _ (c .if1 .taken)))
 
 returns-3 : tie.Need-returns-3
-returns-3 c = let a = c .before .before .before .before .before .before .before .before .args in sym (long-id (a .id) _ (a .limit) (boardIn (st (a .h) (a .store .now))) (a .time .now) (sym (c .before .before .before .before .before .moment .ensures) ∙ c .before .before .before .t .given .1) (c .before .if1 .left) (c .if2 .taken))
-
-returns-4 : tie.Need-returns-4
-returns-4 c = let a = c .before .before .before .before .before .before .before .before .before .args in sym (long-limit (a .id) _ (a .limit) (boardIn (st (a .h) (a .store .now))) (a .time .now) (sym (c .before .before .before .before .before .before .moment .ensures) ∙ c .before .before .before .before .t .given .1) (c .before .before .if1 .left) (c .before .if2 .left) (c .if3 .taken))
+returns-3 c = let a = c .before .before .before .before .before .before .before .before .before .args in sym (long-limit (a .id) _ (a .limit) (boardIn (st (a .h) (a .store .now))) (a .time .now) (sym (c .before .before .before .before .before .before .moment .ensures) ∙ c .before .before .before .before .t .given .1) (sym (c .before .before .is-id .ensures) ∙ not-false _ (c .before .if1 .left)) (c .if2 .taken))
 
 find-requires : tie.Need-find-requires
 find-requires c κs = search needs
 
 quote-at-requires : tie.Need-quote-at-requires
-quote-at-requires c κs = (c .before .before .before .before .before .before .before .before .before .before .pre, c .find .ensures .1, moment-lt _ (sym (c .before .before .before .before .before .before .before .moment .ensures) ∙ c .before .before .before .before .before .t .given .1), c .before .if3 .left)
+quote-at-requires c κs = (c .before .before .before .before .before .before .before .before .before .before .pre, c .find .ensures .1, moment-lt _ (sym (c .before .before .before .before .before .before .before .moment .ensures) ∙ c .before .before .before .before .before .t .given .1), c .before .if2 .left)
 
-returns-5 : tie.Need-returns-5
-returns-5 c =
+returns-4 : tie.Need-returns-4
+returns-4 c =
     let a = c .before .before .before .before .before .before .before .before .before .before .before .args in
     c .quote-at .ensures
     ∙ rw (c .before .find .ensures .0)
-    (sym (good (a .id) _ (a .limit) (boardIn (st (a .h) (a .store .now))) (a .time .now) (sym (c .before .before .before .before .before .before .before .before .moment .ensures) ∙ c .before .before .before .before .before .before .t .given .1) (c .before .before .before .before .if1 .left) (c .before .before .before .if2 .left) (c .before .before .if3 .left)))
+    (sym (good (a .id) _ (a .limit) (boardIn (st (a .h) (a .store .now))) (a .time .now) (sym (c .before .before .before .before .before .before .before .before .moment .ensures) ∙ c .before .before .before .before .before .before .t .given .1) (sym (c .before .before .before .before .is-id .ensures) ∙ not-false _ (c .before .before .before .if1 .left)) (c .before .before .if2 .left)))
 
 pub quote-for-spec : {M : Type 1} → statement M
 quote-for-spec =
@@ -54,9 +50,9 @@ quote-for-spec =
     enum-known-t
     enum-told
     returns
+    is-id-requires
     returns-2
     returns-3
-    returns-4
     find-requires
     quote-at-requires
-    returns-5)
+    returns-4)

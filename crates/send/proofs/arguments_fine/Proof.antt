@@ -3,15 +3,17 @@ use mathlib.Core.Path.{_≡_, sym, _∙_}
 use mathlib.Core.Bool.{true, false}
 use borrow.Author.Tests.{not-true, not-false}
 use Rattle.orderid.specs.OrderIds.{isId}
-use Rattle.scan.proofs.Tests.{out-of, inside}
 use Rattle.send.specs.Send.{argumentsFine}
 use borrow.Author.Needs.{needs}
 use Rattle.send.proofs.arguments_fine.Statement.{statement}
 use Rattle.send.proofs.arguments_fine.Tie as tie
 
+is-id-requires : tie.Need-is-id-requires
+is-id-requires c κs = search needs
+
 returns : tie.Need-returns
 unfolding argumentsFine
-returns c = rw (out-of 1 999999999999999999 (c .before .before .before .args .id) (c .if1 .taken))
+returns c = rw (sym (c .before .is-id .ensures) ∙ not-true _ (c .if1 .taken))
 
 id-bytes-requires : tie.Need-id-bytes-requires
 id-bytes-requires c κs = search needs
@@ -19,9 +21,10 @@ id-bytes-requires c κs = search needs
 returns-2 : tie.Need-returns-2
 unfolding argumentsFine
 returns-2 c =
-    let x = c .before .before .before .before .before .args in
+    let x = c .before .before .before .before .before .before .args in
     let s : isId (x .sender .now) ≡ false = sym (c .before .id-bytes .ensures) ∙ not-true (c .before .id-bytes .result) (c .if2 .taken) in
-    rw (inside 1 999999999999999999 (x .id) (c .before .before .if1 .left), s)
+    let i = sym (c .before .before .before .is-id .ensures) ∙ not-false _ (c .before .before .if1 .left) in
+    rw (i, s)
 
 id-bytes-requires-2 : tie.Need-id-bytes-requires-2
 id-bytes-requires-2 c κs = search needs
@@ -29,20 +32,22 @@ id-bytes-requires-2 c κs = search needs
 returns-3 : tie.Need-returns-3
 unfolding argumentsFine
 returns-3 c =
-    let x = c .before .before .before .before .before .before .before .args in
+    let x = c .before .before .before .before .before .before .before .before .args in
     let s : isId (x .sender .now) ≡ true = sym (c .before .before .before .id-bytes .ensures) ∙ not-false (c .before .before .before .id-bytes .result) (c .before .before .if2 .left) in
     let t : isId (x .target .now) ≡ false = sym (c .before .id-bytes2 .ensures) ∙ not-true (c .before .id-bytes2 .result) (c .if3 .taken) in
-    rw (inside 1 999999999999999999 (x .id) (c .before .before .before .before .if1 .left), s, t)
+    let i = sym (c .before .before .before .before .before .is-id .ensures) ∙ not-false _ (c .before .before .before .before .if1 .left) in
+    rw (i, s, t)
 
 returns-4 : tie.Need-returns-4
 unfolding argumentsFine
 returns-4 c =
-    let x = c .before .before .before .before .before .before .before .args in
+    let x = c .before .before .before .before .before .before .before .before .args in
     let s : isId (x .sender .now) ≡ true = sym (c .before .before .before .id-bytes .ensures) ∙ not-false (c .before .before .before .id-bytes .result) (c .before .before .if2 .left) in
     let t : isId (x .target .now) ≡ true = sym (c .before .id-bytes2 .ensures) ∙ not-false (c .before .id-bytes2 .result) (c .if3 .left) in
-    rw (inside 1 999999999999999999 (x .id) (c .before .before .before .before .if1 .left), s, t)
+    let i = sym (c .before .before .before .before .before .is-id .ensures) ∙ not-false _ (c .before .before .before .before .if1 .left) in
+    rw (i, s, t)
 
 pub arguments-fine-spec : {M : Type 1} → statement M
 arguments-fine-spec =
     tie.close
-    (tie.spec returns id-bytes-requires returns-2 id-bytes-requires-2 returns-3 returns-4)
+    (tie.spec is-id-requires returns id-bytes-requires returns-2 id-bytes-requires-2 returns-3 returns-4)
