@@ -16,3 +16,5 @@ pub mod Queued
 pub mod Keeping
 pub mod Others
 pub mod Distinct
+pub mod Streams
+pub mod Overflow
