@@ -88,7 +88,7 @@ unfoldable pub quoteOut : ℕ → List ℕ → ℕ → List ℕ → List ℕ →
 quoteOut id now limit room xs =
     roomAfter (quoteAnswer id now limit room xs) (quoteValues (boardAt xs .depth) (quoteOf id now limit (boardAt xs))) room
 
--- What a call answers, and what it leaves ys of the room.
+-- What a call answers, and what ys it leaves of the room.
 pub record Asked (id : ℕ) (now : List ℕ) (limit : ℕ) (room xs : List ℕ) (r : ℕ) (ys : List ℕ) : Type 0 where
   pub answer : r ≡ quoteAnswer id now limit room xs
   pub out : ys ≡ quoteOut id now limit room xs
@@ -114,7 +114,7 @@ stateAnswer id room xs =
 unfoldable pub stateOut : ℕ → List ℕ → List ℕ → List ℕ
 stateOut id room xs = roomAfter (stateAnswer id room xs) (stateWords (at (look id (boardAt xs .insts)) (boardAt xs))) room
 
--- What a call answers, and what it leaves ys of the room.
+-- What a call answers, and what ys it leaves of the room.
 pub record Stated (id : ℕ) (room xs : List ℕ) (r : ℕ) (ys : List ℕ) : Type 0 where
   pub answer : r ≡ stateAnswer id room xs
   pub out : ys ≡ stateOut id room xs

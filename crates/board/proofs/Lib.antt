@@ -17,3 +17,5 @@ pub mod Keeping
 pub mod Others
 pub mod Taken
 pub mod Distinct
+pub mod Streams
+pub mod Overflow

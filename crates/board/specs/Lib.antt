@@ -8,3 +8,4 @@ pub mod Ranges
 pub mod Sound
 pub mod Laws
 pub mod Loss
+pub mod Overflow

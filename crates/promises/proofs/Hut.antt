@@ -1,10 +1,9 @@
 -- The hut of specs/Hut.antt recovers: its messages are read, and the calls computed on its board. Assumes nothing.
-use mathlib.Core.Path.{_≡_, refl, sym, ap, _∙_}
+use mathlib.Core.Path.{_≡_, refl, ap, _∙_}
 use mathlib.Core.Bool.{false≢true}
 use mathlib.Core.List.{List, [], _∷_, map}
-use Prim.Native.Nat.{ℕ, zero, suc}
 use native.Mathlib.Omega.{arith}
-use Rattle.book.specs.Rules.{Lists, applied, afterAction, afterNew, afterChange}
+use Rattle.book.specs.Rules.{applied, afterAction, afterNew, afterChange}
 use Rattle.message.specs.Message.{Message}
 use Rattle.board.specs.Board.{Board, opened, anyWaiting, look}
 use Rattle.board.specs.Count.{joining, hit, give, gives, count, number}
@@ -12,13 +11,14 @@ use Rattle.board.specs.Snapshot.{entriesOf, run, after, take, snap}
 use Rattle.board.specs.Feed.{feed}
 use Rattle.board.specs.Calls.{Call, fed, aside, calls, Throughout, inst, Live, mine}
 use Rattle.board.specs.Demand.{NumberedFromOne, bookAt, NeverBreaks, Right}
+use Rattle.board.proofs.Streams.{numbered-from-one, never-breaks}
 use Rattle.store.specs.Meaning.{boardAt}
 use Rattle.opening.specs.Opening.{openStore}
 use Rattle.samples.specs.Says.{bid-1, bid-2, offer-3, first-says, second-says, third-says, shows}
 use Rattle.samples.proofs.Read.{says-first, says-second, says-third, says-at-1, says-at-2, says-at-4}
-use Rattle.promises.specs.Acts.{Act, lefts, Along}
+use Rattle.promises.specs.Acts.{lefts}
 use Rattle.promises.specs.Recovery.{readIn, Supposed}
-use Rattle.promises.specs.Hut.{stream, received, ours, Recovered, HutRecovers}
+use Rattle.promises.specs.Hut.{stream, received, ours, HutRecovers}
 use Rattle.promises.proofs.Recovery.{callOf, back, ends, starts, right-back}
 
 -- what the stream says, and the calls
@@ -39,18 +39,11 @@ calls-made = rw (says-first, says-second, says-third, says-at-1, says-at-2, says
 
 -- ---- on messages and boards
 numbers : NumberedFromOne said
-numbers zero h = (_, _, refl)
-numbers (suc zero) h = (_, _, refl)
-numbers (suc (suc zero)) h = (_, _, refl)
-numbers (suc (suc (suc k))) h = absurd (omega arith)
+numbers = numbered-from-one said refl
 
 never : NeverBreaks said 7
 unfolding bookAt mine run applied afterAction afterNew afterChange
-never zero h = (_, refl)
-never (suc zero) h = (_, refl)
-never (suc (suc zero)) h = (_, refl)
-never (suc (suc (suc zero))) h = (_, refl)
-never (suc (suc (suc (suc k)))) h = absurd (omega arith)
+never = never-breaks said 7 (record { bids = bid-2 ∷ []; offers = offer-3 ∷ [] }) refl
 
 right : Throughout (Right said 7) made (opened 0 ours)
 unfolding bookAt mine run applied afterAction afterNew afterChange anyWaiting look joining hit give gives count number entriesOf after take snap feed

@@ -157,21 +157,19 @@ module _ (xs : List ℕ) (e : openAnswer 0 (7 ∷ []) xs ≡ 0) where
   holds-heard = rw read.says-first at (recovery.after 0 (feeds first) (tookEmpty xs) took holds-took)
 
 -- the quote of a store is its board's
-quoted-as : (n : ℕ) (time : List ℕ) → quoteNumber (quoteOf 7 (onTheDay time) 30 heard) ≡ n → QuotedWith n time
+abbrev answered : List ℕ → ℕ
+answered time = quoteNumber (quoteOf 7 (onTheDay time) 30 heard)
+
+quoted-as : (n : ℕ) (time : List ℕ) → answered time ≡ n → QuotedWith n time
 unfolding quoteAnswer
 quoted-as n time q xs room e l = let h = holds-heard xs e in rw (h .sound, le-leb 17 (length room) l, h .same) q
 
-m13-quoted : quoteNumber (quoteOf 7 (onTheDay (49 ∷ 51 ∷ 58 ∷ 48 ∷ 48 ∷ 58 ∷ 51 ∷ 48 ∷ 46 ∷ 48 ∷ 48 ∷ 48 ∷ [])) 30 heard) ≡ 0
+m13 :
+    (answered (49 ∷ 51 ∷ 58 ∷ 48 ∷ 48 ∷ 58 ∷ 51 ∷ 48 ∷ 46 ∷ 48 ∷ 48 ∷ 48 ∷ []) ≡ 0)
+    × (answered (49 ∷ 51 ∷ 58 ∷ 48 ∷ 48 ∷ 58 ∷ 51 ∷ 48 ∷ 46 ∷ 48 ∷ 48 ∷ 49 ∷ []) ≡ 24)
+    × (answered (49 ∷ 50 ∷ 58 ∷ 53 ∷ 57 ∷ 58 ∷ 53 ∷ 57 ∷ 46 ∷ 57 ∷ 57 ∷ 57 ∷ []) ≡ 23)
 unfolding applied afterAction afterNew anyWaiting look joining hit give gives count number entriesOf run after take snap feed quoteOf ageOf millis momentOf dateOf timeOf clockOf minutesOf twoOf digitsOf isDate dayOf leap months daysIn daysTo yearDays daysBefore
-m13-quoted = refl
-
-m13-old : quoteNumber (quoteOf 7 (onTheDay (49 ∷ 51 ∷ 58 ∷ 48 ∷ 48 ∷ 58 ∷ 51 ∷ 48 ∷ 46 ∷ 48 ∷ 48 ∷ 49 ∷ [])) 30 heard) ≡ 24
-unfolding applied afterAction afterNew anyWaiting look joining hit give gives count number entriesOf run after take snap feed quoteOf ageOf millis momentOf dateOf timeOf clockOf minutesOf twoOf digitsOf isDate dayOf leap months daysIn daysTo yearDays daysBefore
-m13-old = refl
-
-m13-ahead : quoteNumber (quoteOf 7 (onTheDay (49 ∷ 50 ∷ 58 ∷ 53 ∷ 57 ∷ 58 ∷ 53 ∷ 57 ∷ 46 ∷ 57 ∷ 57 ∷ 57 ∷ [])) 30 heard) ≡ 23
-unfolding applied afterAction afterNew anyWaiting look joining hit give gives count number entriesOf run after take snap feed quoteOf ageOf millis momentOf dateOf timeOf clockOf minutesOf twoOf digitsOf isDate dayOf leap months daysIn daysTo yearDays daysBefore
-m13-ahead = refl
+m13 = (refl, refl, refl)
 
 one-is : momentOf atOne ≡ Number.Is 64968180540000
 unfolding momentOf dateOf timeOf clockOf minutesOf twoOf digitsOf isDate dayOf leap months daysIn daysTo yearDays daysBefore
@@ -221,9 +219,9 @@ marked-cases =
       m12-taken = m12-taken;
       m12-book = m12-book;
       m13-heard = m13-heard;
-      m13-quoted = quoted-as 0 _ m13-quoted;
-      m13-old = quoted-as 24 _ m13-old;
-      m13-ahead = quoted-as 23 _ m13-ahead;
+      m13-quoted = quoted-as 0 _ (m13 .0);
+      m13-old = quoted-as 24 _ (m13 .1);
+      m13-ahead = quoted-as 23 _ (m13 .2);
       m14-written = m14-written;
       m14-length = read.sized;
       m14-sum = refl;

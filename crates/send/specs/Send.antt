@@ -65,7 +65,7 @@ sendAnswer id sender target k m time out xs = pageAnswer (sentPage id sender tar
 unfoldable pub sendOut : ℕ → List ℕ → List ℕ → ℕ → ℕ → List ℕ → List ℕ → List ℕ → List ℕ
 sendOut id sender target k m time out xs = pageOut (sentPage id sender target k m time xs) out
 
--- What a call answers, and what it leaves ys of the room.
+-- What a call answers, and what ys it leaves of the room.
 pub record Sent (id : ℕ) (sender target : List ℕ) (k m : ℕ) (time room xs : List ℕ) (r : ℕ) (ys : List ℕ) : Type 0 where
   pub answer : r ≡ sendAnswer id sender target k m time room xs
   pub out : ys ≡ sendOut id sender target k m time room xs
