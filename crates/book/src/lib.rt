@@ -17,8 +17,11 @@ pub const MOST_ID: u64 = 999999999999999999;
 // What an entry is of: a bid,
 pub const BID: u64 = 0;
 
-// an offer, or else the empty book, J.
+// an offer,
 pub const OFFER: u64 = 1;
+
+// or the empty book, as which any number above is taken too.
+pub const J: u64 = 2;
 
 // What an entry does: new moves the rest down,
 pub const NEW: u64 = 0;
