@@ -15,7 +15,7 @@ pub const UPDATE: usize = 9;
 // The places of a side, and the numbers of an entry.
 const PLACES: usize = 20;
 
-const ENTRY: usize = 5;
+pub const ENTRY: usize = 5;
 
 // The entry in the 5 numbers from `at` on.
 pub fn load_entry(store: &[u64], at: usize) -> Entry

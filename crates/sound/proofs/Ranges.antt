@@ -14,7 +14,8 @@ use Rattle.price.proofs.Holding.{held-of-held, held-small, small-held}
 use Rattle.cells.specs.Cells.{entryAt, updateAt}
 use Rattle.board.specs.Ranges.{within, momentFine, orderFine, ordersFine, entryFine, noneFine, updateFine}
 use Rattle.board.proofs.Tested.{both}
-use Rattle.scan.specs.Scan.{each, allZero, mostOf, fullOf, moreTo, entryScan, updateScan}
+use Rattle.sides.specs.Side.{each, allZero, moreTo, entryScan}
+use Rattle.scan.specs.Scan.{mostOf, fullOf, updateScan}
 
 -- ---- Bools
 

@@ -7,7 +7,7 @@ use Rattle.board.specs.Board.{look}
 use Rattle.store.specs.Meaning.{st, boardAt, loaded}
 use Rattle.store.specs.Canon.{Formed}
 use Rattle.store.proofs.Decode.{insts-length}
-use Rattle.scan.proofs.Tests.{out-of, inside}
+use Rattle.sides.proofs.Tests.{out-of, inside}
 use Rattle.sound.proofs.Readers.{formed, marks}
 use Rattle.ask.proofs.States.{unsound, short, no-id, not-followed, stated}
 use borrow.Author.Needs.{needs}

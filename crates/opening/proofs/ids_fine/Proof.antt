@@ -6,7 +6,7 @@ use native.Mathlib.Omega.{arith}
 use lib.ListN.{length, getD, drop, drop-of-length-le}
 use lib.Seq.{drop-cons}
 use Rattle.board.specs.Ranges.{all, idFine}
-use Rattle.scan.proofs.Tests.{out-of, inside}
+use Rattle.sides.proofs.Tests.{out-of, inside}
 use borrow.Author.Needs.{needs}
 use Rattle.opening.proofs.ids_fine.Statement.{statement}
 use Rattle.opening.proofs.ids_fine.Tie as tie

@@ -3,7 +3,7 @@ use mathlib.Core.Path.{_≡_, sym, _∙_}
 use mathlib.Core.Bool.{true, false}
 use borrow.Author.Tests.{not-true, not-false}
 use Rattle.orderid.specs.OrderIds.{isId}
-use Rattle.scan.proofs.Tests.{out-of, inside}
+use Rattle.sides.proofs.Tests.{out-of, inside}
 use Rattle.send.specs.Send.{argumentsFine}
 use borrow.Author.Needs.{needs}
 use Rattle.send.proofs.arguments_fine.Statement.{statement}
