@@ -13,9 +13,6 @@ ghost use Rattle.store.specs.Meaning.{st};
 ghost use Rattle.store.specs.Canon.{Formed};
 ghost use Rattle.queue.specs.Joins.{letGoS, settleS, joinOneS, joinAllS, howMany, Joins};
 
-// The most that the queue holds.
-const MOST: usize = 256;
-
 // A message that came to the queue: the heading after it, and whether the queue was let go.
 pub struct Joined {
     pub head: Heading,
@@ -100,7 +97,7 @@ pub fn join(store: &mut [u64], h: Heading, n: u64, run: &[u64], count: usize) ->
     ensures { λ r. ⌜ Joins n (updatesIn (now (run .entry)) count) (st h (now (store .entry))) (r .over) (st (r .head) (now (store .exit))) ⌝ }
 {
     let more = how_many(run, count, h.followed);
-    if MOST < h.queued + more {
+    if store::MOST_QUEUED < h.queued + more {
         let g = let_go(store, h);
         return Joined {
             head: g,

@@ -1,5 +1,4 @@
 pub mod Headings
-pub mod Each
-pub mod Tests
-pub mod Columned
 pub mod Ascents
+pub mod Booked
+pub mod Lowest

@@ -21,7 +21,8 @@ use Rattle.store.specs.Layout.{atDepth, atFollowed, atNumber, atMarks, atQueued
 use Rattle.store.specs.Meaning.{instAt, queuedAt, boardOf, boardAt, loaded}
 use Rattle.store.specs.Canon.{Formed, Canon}
 use Rattle.store.proofs.Marked.{any-board}
-use Rattle.scan.specs.Scan.{spread, roomOf}
+use Rattle.sides.specs.Side.{roomOf}
+use Rattle.scan.specs.Scan.{spread}
 use Rattle.scan.proofs.Headings.{Headed}
 use Rattle.sound.proofs.Zeros.{Zeros, zeros-of, spare-of}
 use Rattle.sound.proofs.Back.{noQueued, canon-of}

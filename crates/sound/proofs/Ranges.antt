@@ -16,7 +16,8 @@ use Rattle.orderid.specs.OrderIds.{top, full, idSound}
 use Rattle.cells.specs.Cells.{entryAt, updateAt}
 use Rattle.board.specs.Ranges.{within, mostOrders, priceFine, momentFine, ordersFine, byFine, entryFine, noneFine, updateFine}
 use Rattle.board.proofs.Tested.{both}
-use Rattle.scan.specs.Scan.{each, allZero, mostOf, fullOf, moreTo, entryScan, updateScan}
+use Rattle.sides.specs.Side.{each, allZero, moreTo, entryScan}
+use Rattle.scan.specs.Scan.{mostOf, fullOf, updateScan}
 
 -- ---- Bools
 

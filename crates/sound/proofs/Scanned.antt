@@ -14,8 +14,9 @@ use Rattle.board.specs.Ranges.{within, idFine, updateFine}
 use Rattle.board.specs.Sound.{distinct}
 use Rattle.board.proofs.Tested.{both, four, and-true, within-true, is-within}
 use Rattle.store.specs.Layout.{storeSize, atDepth, atFollowed, atNumber, atMarks, atQueued, idOf, reasonOf, bidsOf, offersOf, slotOf}
-use Rattle.scan.specs.Scan.{each, allZero, headingScan, recordScan, spread, recordsScan, mostOf, fullOf, sideScan, roomOf, bookScan, booksScan, updateScan, slotScan, lowOf, queueScan, restScan, scan}
-use Rattle.scan.proofs.Each.{each-at, each-of, zero-at, zero-of}
+use Rattle.sides.specs.Side.{each, allZero, sideScan, roomOf}
+use Rattle.scan.specs.Scan.{headingScan, recordScan, spread, recordsScan, mostOf, fullOf, bookScan, booksScan, updateScan, slotScan, lowOf, queueScan, restScan, scan}
+use Rattle.sides.proofs.Each.{each-at, each-of, zero-at, zero-of}
 use Rattle.scan.proofs.Headings.{Headed, headed, heading-of}
 use Rattle.sound.proofs.Zeros.{Zeros}
 use Rattle.sound.proofs.Ranges.{update-test}

@@ -21,8 +21,9 @@ use Rattle.cells.proofs.Windows.{entry-ext, no-entry-at, length-side-at, side-n
 use Rattle.board.specs.Ranges.{entryFine}
 use Rattle.board.specs.Sound.{SoundSide}
 use Rattle.board.proofs.Tested.{four, and-true}
-use Rattle.scan.specs.Scan.{each, allZero, mostOf, fullOf, entryScan, sideScan}
-use Rattle.scan.proofs.Each.{each-at, each-of, zero-at, zero-of}
+use Rattle.sides.specs.Side.{each, allZero, entryScan, sideScan}
+use Rattle.scan.specs.Scan.{mostOf, fullOf}
+use Rattle.sides.proofs.Each.{each-at, each-of, zero-at, zero-of}
 use Rattle.sound.proofs.Ranges.{entry-test}
 
 -- a side at `at` with room for so many

@@ -33,35 +33,55 @@ pub const MARKS: usize = 6;
 
 pub const QUEUED: usize = 7;
 
-// A channel follows at most 16 instruments.
+// The spare numbers behind the heading: where they start, and how many there are.
+pub const HEADING_SPARE: usize = 8;
+
+pub const HEADING_SPARE_SIZE: usize = 24;
+
+// A channel follows at most so many instruments.
 pub const MOST_INSTS: usize = 16;
 
-// The instruments' records: where the SecurityIDs and the reasons start, and how far apart they stand.
+// The instruments' records: where the SecurityIDs and the reasons start, how far apart they stand, and how many numbers they take.
 pub const IDS: usize = 32;
 
 pub const REASONS: usize = 33;
 
 pub const RECORD: usize = 8;
 
-// The books: where the bids and the offers start, how far apart a book's numbers stand, and that they all take so many.
+pub const RECORDS_SIZE: usize = 128;
+
+// The books: where the bids and the offers start, how far apart a book's numbers stand, and how many numbers they take.
 pub const BIDS: usize = 160;
 
 pub const OFFERS: usize = 288;
 
 pub const BOOK: usize = 256;
 
-// The queue: where it starts, how far apart its entries stand, and how many numbers it takes.
+pub const BOOKS_SIZE: usize = 4096;
+
+// A side: how many numbers it takes, and its places; where its spare numbers start, and how many there are.
+pub const SIDE: usize = 128;
+
+pub const PLACES_SIZE: usize = 100;
+
+pub const SIDE_SPARE: usize = 101;
+
+pub const SIDE_SPARE_SIZE: usize = 27;
+
+// The queue: where it starts, how far apart its entries stand, how many numbers it takes, alone and with the spare ones behind it,
+// and how many entries it holds at most.
 pub const QUEUE: usize = 4256;
 
 pub const SLOT: usize = 11;
 
 pub const QUEUE_SIZE: usize = 2816;
 
+pub const QUEUE_AND_SPARE_SIZE: usize = 2912;
+
+pub const MOST_QUEUED: usize = 256;
+
 // The books and the queue are one run.
 const BOOKS_AND_QUEUE: usize = 6912;
-
-// 48: 18 digits.
-pub const MOST_ID: u64 = 999999999999999999;
 
 // Answers of document 01 that several calls give: done; the store is under 7,168 numbers or unsound; an argument is outside its
 // range; the instrument is not followed; it is Waiting.

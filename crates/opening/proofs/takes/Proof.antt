@@ -5,7 +5,7 @@ use native.Mathlib.Omega.{arith}
 use borrow.Author.Tests.{lt-leb, le-leb, not-true, not-false}
 use lib.ListN.{length}
 use Rattle.board.specs.Sound.{distinct}
-use Rattle.scan.proofs.Tests.{out-of, inside}
+use Rattle.sides.proofs.Tests.{out-of, inside}
 use Rattle.opening.proofs.Written.{spread-all}
 use borrow.Author.Needs.{needs}
 use Rattle.opening.proofs.takes.Statement.{statement}

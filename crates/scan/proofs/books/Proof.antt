@@ -6,9 +6,10 @@ use native.Mathlib.Omega.{arith}
 use borrow.Author.Tests.{not-true, not-false}
 use lib.ListN.{getD}
 use Rattle.store.specs.Layout.{atFollowed, atMarks, bidsOf}
-use Rattle.scan.specs.Scan.{each, roomOf, bookScan, booksScan}
-use Rattle.scan.proofs.Each.{each-none, each-more, each-false}
-use Rattle.scan.proofs.Columned.{books-fine}
+use Rattle.sides.specs.Side.{each, roomOf}
+use Rattle.scan.specs.Scan.{bookScan, booksScan}
+use Rattle.sides.proofs.Each.{each-none, each-more, each-false}
+use Rattle.scan.proofs.Booked.{books-fine}
 use borrow.Author.Needs.{needs}
 use Rattle.scan.proofs.books.Statement.{statement}
 use Rattle.scan.proofs.books.Tie as tie

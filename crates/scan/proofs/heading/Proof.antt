@@ -1,7 +1,7 @@
 -- `heading` meets its contract: the tests are those of the definition.
 use borrow.Author.Tests.{lt-leb, le-leb}
 use Rattle.scan.specs.Scan.{headingScan}
-use Rattle.scan.proofs.Tests.{held-first}
+use Rattle.sides.proofs.Tests.{held-first}
 use borrow.Author.Needs.{needs}
 use Rattle.scan.proofs.heading.Statement.{statement}
 use Rattle.scan.proofs.heading.Tie as tie

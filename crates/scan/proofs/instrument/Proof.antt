@@ -25,9 +25,12 @@ add-zero c = search needs
 zero-requires : tie.Need-zero-requires
 zero-requires c κs = search needs
 
+is-id-requires : tie.Need-is-id-requires
+is-id-requires c κs = search needs
+
 returns : tie.Need-returns
 unfolding recordScan
-returns c = rw (c .zero .ensures)
+returns c = rw (c .is-id .ensures, c .before .zero .ensures)
 
 pub instrument-spec : {M : Type 1} → statement M
 instrument-spec =
@@ -40,4 +43,5 @@ instrument-spec =
     shared-slice-read-reason
     add-zero
     zero-requires
+    is-id-requires
     returns)

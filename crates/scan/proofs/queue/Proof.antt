@@ -6,8 +6,10 @@ use native.Mathlib.Omega.{arith}
 use borrow.Author.Tests.{not-true, not-false}
 use lib.ListN.{getD}
 use Rattle.store.specs.Layout.{atNumber, atFollowed, atQueued, slotOf}
-use Rattle.scan.specs.Scan.{each, slotScan, lowOf, queueScan}
-use Rattle.scan.proofs.Each.{each-none, each-more, each-false, low-next}
+use Rattle.sides.specs.Side.{each}
+use Rattle.scan.specs.Scan.{slotScan, lowOf, queueScan}
+use Rattle.sides.proofs.Each.{each-none, each-more, each-false}
+use Rattle.scan.proofs.Lowest.{low-next}
 use borrow.Author.Needs.{needs}
 use Rattle.scan.proofs.queue.Statement.{statement}
 use Rattle.scan.proofs.queue.Tie as tie

@@ -11,9 +11,10 @@ use Rattle.board.proofs.Tested.{both}
 use Rattle.cells.specs.Cells.{tab}
 use Rattle.cells.proofs.Tables.{tab-turn, tab-end}
 use Rattle.store.specs.Layout.{idOf}
-use Rattle.scan.specs.Scan.{each, recordScan, spread, recordsScan}
+use Rattle.sides.specs.Side.{each}
+use Rattle.scan.specs.Scan.{recordScan, spread, recordsScan}
 use Rattle.scan.proofs.Ascents.{ascends, ascends-end, ascends-turn, ascends-distinct}
-use Rattle.scan.proofs.Each.{each-none, each-more, each-false}
+use Rattle.sides.proofs.Each.{each-none, each-more, each-false}
 use borrow.Author.Needs.{needs}
 use Rattle.scan.proofs.records.Statement.{statement}
 use Rattle.scan.proofs.records.Tie as tie

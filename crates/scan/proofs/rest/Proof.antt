@@ -20,7 +20,7 @@ books-requires c κs = search needs
 
 returns : tie.Need-returns
 unfolding restScan
-returns c = rw (← c .before .before .before .most-of .ensures, ← c .before .before .full-of .ensures, ← c .before .books .ensures, not-true (c .before .books .result) (c .if1 .taken))
+returns c = rw (← c .before .before .before .most-of .ensures .0, ← c .before .before .full-of .ensures, ← c .before .books .ensures, not-true (c .before .books .result) (c .if1 .taken))
 
 queue-requires : tie.Need-queue-requires
 queue-requires c κs = search needs
@@ -29,7 +29,7 @@ returns-2 : tie.Need-returns-2
 unfolding restScan
 returns-2 c =
     c .queue .ensures
-    ∙ rw (← c .before .before .before .before .most-of .ensures, ← c .before .before .before .full-of .ensures, ← c .before .before .books .ensures, not-false (c .before .before .books .result) (c .before .if1 .left))
+    ∙ rw (← c .before .before .before .before .most-of .ensures .0, ← c .before .before .before .full-of .ensures, ← c .before .before .books .ensures, not-false (c .before .before .books .result) (c .before .if1 .left))
 
 pub rest-spec : {M : Type 1} → statement M
 rest-spec =

@@ -2,7 +2,7 @@
 use borrow.Author.Tests.{lt-ltb, le-ltb, not-true, not-false}
 use lib.ListN.{getD}
 use Rattle.scan.specs.Scan.{slotScan}
-use Rattle.scan.proofs.Tests.{out-of, inside}
+use Rattle.sides.proofs.Tests.{out-of, inside}
 use borrow.Author.Needs.{needs}
 use Rattle.scan.proofs.slot.Statement.{statement}
 use Rattle.scan.proofs.slot.Tie as tie

@@ -4,7 +4,7 @@ use Prim.Native.Nat.{_+_}
 use borrow.Author.Tests.{lt-leb, le-leb}
 use lib.ListN.{getD}
 use Rattle.scan.specs.Scan.{updateScan}
-use Rattle.scan.proofs.Tests.{out-of, inside}
+use Rattle.sides.proofs.Tests.{out-of, inside}
 use borrow.Author.Needs.{needs}
 use Rattle.scan.proofs.update.Statement.{statement}
 use Rattle.scan.proofs.update.Tie as tie
