@@ -12,7 +12,9 @@ ghost use Rattle.cells.specs.Runs.{updateSize, updatesIn};
 ghost use Rattle.message.specs.Message.{said, answerOf};
 ghost use Rattle.store.specs.Layout.{storeSize};
 ghost use Rattle.store.specs.Meaning.{st};
-ghost use Rattle.store.specs.Canon.{Canon};
+ghost use Rattle.store.specs.Canon.{Formed, Canon};
+ghost use Rattle.store.specs.Answers.{fed};
+ghost use Rattle.taking.specs.Replays.{snapS};
 ghost use Rattle.channel.specs.Feeds.{Aims, Feeds};
 
 // Frame.
@@ -51,6 +53,24 @@ fn answer_of(why: Refusal) -> u64
     }
 }
 
+// A message that is not read leaves the board as it was.
+fn unread(h: Heading, why: Refusal) -> Fed
+    ensures { λ f. ⌜ (f .head ≡ h) × (f .answer ≡ answerOf why) ⌝ }
+{
+    Fed {
+        head: h,
+        answer: answer_of(why),
+    }
+}
+
+// A snapshot: its 34 is not compared with H, and its 52 dates nothing.
+fn snapshot(store: &mut [u64], h: Heading, r: Reading, run: &[u64]) -> Fed
+    requires { ⌜ Formed (st h (now store)) × (r .count * updateSize ≤ length (now run)) ⌝ }
+    ensures { λ f. ⌜ fed (f .answer) (st (f .head) (now (store .exit))) ≡ snapS (r .id) (r .last) (updatesIn (now (run .entry)) (r .count)) (st h (now (store .entry))) ⌝ }
+{
+    taking::snapshot(store, h, r.id, r.last, run, r.count)
+}
+
 // The message that a reading and the entries in a run say, on the board that the heading and the store are. The entries are
 // aimed where they stand.
 pub fn feed_read(store: &mut [u64], h: Heading, r: Reading, run: &mut [u64]) -> Fed
@@ -63,10 +83,7 @@ pub fn feed_read(store: &mut [u64], h: Heading, r: Reading, run: &mut [u64]) -> 
     let v = r.verdict;
     match v {
         Verdict::Numbered => count::number(store, h, r.number, r.heard, run, count),
-        Verdict::Snapshot => taking::snapshot(store, h, r.id, r.last, run, count),
-        Verdict::Refused(why) => Fed {
-            head: h,
-            answer: answer_of(why),
-        },
+        Verdict::Snapshot => snapshot(store, h, r, run),
+        Verdict::Refused(why) => unread(h, why),
     }
 }

@@ -27,8 +27,8 @@ snapshot-requires c κs = search needs
 enum-known-v : tie.Need-enum-known-v
 enum-known-v c = search needs
 
-answer-of-requires : tie.Need-answer-of-requires
-answer-of-requires c κs = search needs
+unread-requires : tie.Need-unread-requires
+unread-requires c κs = search needs
 
 same-length : tie.Need-same-length
 same-length c = search needs
@@ -65,7 +65,7 @@ unfolding feedS
 returns-3 c =
     let top = c .before .before .before .before .before .before .before .before .before .before .before in
     let says = ap (λ (v : Verdict). saidBy v (top .args .r) (updatesIn (top .args .run .now) (top .args .r .count))) (c .before .before .v .given .1) in
-    (feeds says (top .pre .0) (rw (c .answer-of .ensures)), c .before .before .before .before .before .before .aim .ensures)
+    (feeds says (top .pre .0) (rw (c .unread .ensures .0, c .unread .ensures .1)), c .before .before .before .before .before .before .aim .ensures)
 
 pub feed-read-spec : {M : Type 1} → statement M
 feed-read-spec =
@@ -77,7 +77,7 @@ feed-read-spec =
     enum-told-2
     snapshot-requires
     enum-known-v
-    answer-of-requires
+    unread-requires
     same-length
     same-length-2
     returns
