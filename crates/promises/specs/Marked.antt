@@ -8,13 +8,13 @@ use lib.ListN.{length}
 use Rattle.digits.specs.declared.Number.{Number}
 use Rattle.price.specs.Price.{priceOf}
 use Rattle.price.specs.declared.Priced.{Priced}
-use Rattle.moment.specs.Moments.{dateOf, timeOf, span}
+use Rattle.moment.specs.Moments.{dateOf, span}
 use Rattle.frame.specs.Frames.{total}
 use Rattle.book.specs.Rules.{leaves, breach, afterNew, afterThru, afterFrom}
 use Rattle.book.specs.declared.Entry.{Entry}
 use Rattle.message.specs.Message.{refused}
 use Rattle.message.specs.declared.Refusal.the-variants.{BadFields}
-use Rattle.board.specs.Board.{Board, Out, opened, at}
+use Rattle.board.specs.Board.{Board, opened, at}
 use Rattle.board.specs.Calls.{inst}
 use Rattle.fields.specs.Messages.{messageIn}
 use Rattle.feed.specs.Feeding.{fed}
