@@ -1,7 +1,7 @@
 -- What each step of a call gives. Assumes nothing.
-use mathlib.Core.Path.{_≡_, refl, sym, ap, _∙_}
-use mathlib.Core.Bool.{Bool, true, false, cond}
-use mathlib.Core.List.{List, _++_}
+use mathlib.Core.Path.{_≡_, ap}
+use mathlib.Core.Bool.{true, false}
+use mathlib.Core.List.{List}
 use Prim.Native.Nat.{ℕ, _+_, _*_, _≤_}
 use native.Mathlib.Omega.{arith}
 use borrow.Author.Tests.{leb-true}
@@ -12,18 +12,18 @@ use Rattle.message.specs.declared.Reading.{Reading}
 use Rattle.message.specs.Message.{Message, numbered, snapshot, refused, told, said}
 use Rattle.message.specs.Laws.{Fair}
 use Rattle.message.proofs.Laws.{told-is-said, told-fits}
-use Rattle.board.specs.Board.{Board, Out, waitingIn}
+use Rattle.board.specs.Board.{Out, waitingIn}
 use Rattle.board.specs.Feed.{feed}
 use Rattle.board.specs.Laws.{answersTo}
 use Rattle.board.specs.Ranges.{messageFine}
 use Rattle.board.proofs.Answers.{answers-in-table}
 use Rattle.cells.specs.Runs.{updatesIn}
 use Rattle.fields.specs.Messages.{messageIn}
-use Rattle.fields.specs.Reads.{Reads}
+use Rattle.group.specs.Reads.{Reads}
 use Rattle.inrange.proofs.Read.{read-in-range}
 use Rattle.heading.specs.declared.Heading.{Heading}
 use Rattle.heading.specs.Marks.{markedIn}
-use Rattle.store.specs.Meaning.{State, st, boardOf, boardAt, boardIn, loaded, headingAt, saved, written}
+use Rattle.store.specs.Meaning.{State, st, boardOf, boardAt, boardIn, loaded, headingAt, saved}
 use Rattle.store.specs.Canon.{Canon}
 use Rattle.store.proofs.Marked.{waiting-board}
 use Rattle.sound.specs.Sound.{sound}
@@ -57,7 +57,7 @@ module _ (bytes xs : List ℕ) where
     pub asked : sound xs ≡ true → length run₀ ≡ 576 → Canon (st h xs) × (r .count * 9 ≤ length run)
     asked s l =
         let k : r .count ≤ 64 = rw (tells .reading) (told-fits m fair) in
-        (rw q (canon xs s), omega (arith, k, tells .size, l))
+        (rw q (canon xs s), omega (arith, k, tells .run .size, l))
 
     pub says : said r (updatesIn run (r .count)) ≡ m
     says = rw (tells .entries, tells .reading) (told-is-said m fair)

@@ -14,7 +14,8 @@ use Rattle.tags.specs.Tags.{namedTags, otherTags, headX, headW, entryX, entryW,
 use Rattle.tags.proofs.Unbroken.{stands-past, stands-tidy, stands-parts}
 use Rattle.entries.specs.Values.{_>>=_, need, seqAt, heardAt, countAt}
 use Rattle.entries.specs.Entries.{entryInX, entryInW}
-use Rattle.fields.specs.Messages.{otherOf, groupOf, each, changesOf, headOf, running, firsts, snapshotOf, typedAs}
+use Rattle.group.specs.Groups.{groupOf, each, running, firsts}
+use Rattle.lead.specs.Messages.{otherOf, changesOf, headOf, snapshotOf, typedAs}
 
 -- a message that is not refused
 abbrev pub isRead : Message → Bool

@@ -3,7 +3,7 @@ use mathlib.Core.Path.{_≡_, refl, sym, ap, _∙_}
 use mathlib.Core.List.{List, [], _∷_}
 use mathlib.Core.Bool.{Bool, true, false, false≢true, true≢false}
 use mathlib.Core.Option.{Option, none, some}
-use Prim.Native.Nat.{ℕ, _-_, _≤_}
+use Prim.Native.Nat.{ℕ, _-_}
 use native.Mathlib.Omega.{arith}
 use denote.Enum.Declared.{tagOf}
 use types.Run.{OneOf}
@@ -21,12 +21,13 @@ use Rattle.frame.proofs.Framed as framed
 use Rattle.frame.proofs.Messages.{framing, outline, outlined}
 use Rattle.frame.proofs.Walk.{left-whole}
 use Rattle.tags.proofs.Unbroken.{unbroken}
-use Rattle.fields.specs.Messages.{orBadFields, typedAs, messageIn}
-use Rattle.fields.specs.Groups.{refusalOf}
-use Rattle.fields.specs.Reads.{Reads}
-use Rattle.fields.proofs.Leading.{refused-reads, reads-as}
-use Rattle.fields.proofs.Listing.{cases}
-use Rattle.fields.proofs.Bodies.{refused-by}
+use Rattle.lead.specs.Messages.{orBadFields, typedAs}
+use Rattle.fields.specs.Messages.{messageIn}
+use Rattle.fields.specs.Messages.{refusalOf}
+use Rattle.group.specs.Reads.{Spared, Reads}
+use Rattle.group.proofs.Reading.{refused-reads, reads-as}
+use Rattle.group.proofs.Listing.{cases}
+use Rattle.lead.proofs.Bodies.{refused-by}
 use Rattle.fields.proofs.Unbroken.{isRead, typed-well}
 
 -- ---- what a verdict says of the body
@@ -106,14 +107,14 @@ module _ (depth : ℕ) (s : List ℕ) where
 
   module _ {r : Reading} {xs ys : List ℕ} (q : r ≡ told (refused (refusalOf (frameOf s))) .reading) where
     -- no outline
-    pub no-outline : ((kind from : ℕ) → outlineOf s ≡ Framed.Is kind from → ⊥) → length ys ≡ length xs
+    pub no-outline : ((kind from : ℕ) → outlineOf s ≡ Framed.Is kind from → ⊥) → Spared xs ys
         → Reads (told (messageIn depth s)) r xs ys
     no-outline h l = reads-as (refused-reads (refusalOf (frameOf s)) xs ys r q l) (refusal-is (λ k f e. absurd (h k f (outlined s k f e))))
 
     -- an outline, and a body that is refused
     pub body-refused : {kind from : ℕ} {p : Reading} → outlineOf s ≡ Framed.Is kind from
         → Reads (told (orBadFields (bodyAs kind from))) p xs ys → wasRead (p .verdict) ≡ false → Reads (told (messageIn depth s)) r xs ys
-    body-refused {kind} {from} o h v = reads-as (refused-reads (refusalOf (frameOf s)) xs ys r q (h .size)) (refusal-is none-of)
+    body-refused {kind} {from} o h v = reads-as (refused-reads (refusalOf (frameOf s)) xs ys r q (h .run)) (refusal-is none-of)
       where
         none-of : (k f : ℕ) → frameOf s ≡ Framed.Is k f → bodyAs k f ≡ none
         none-of k f e =

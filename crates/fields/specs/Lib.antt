@@ -1,3 +1,1 @@
 pub mod Messages
-pub mod Groups
-pub mod Reads

@@ -10,15 +10,17 @@ use lib.Dec.{leb, eqb}
 use lib.ListN.{length}
 use Rattle.digits.proofs.Width.{both}
 use Rattle.book.specs.declared.Update.{Update}
-use Rattle.message.specs.Message.{Head, Message, numbered, snapshot, refused}
+use Rattle.message.specs.Message.{Message, snapshot}
 use Rattle.board.specs.Ranges.{all, within, mostNumber, idFine, momentFine, headFine, shownFine, messageFine}
 use Rattle.frame.specs.Fields.{Field}
 use Rattle.frame.specs.Frames.{frameOf, bodyOf}
 use Rattle.frame.specs.declared.Framed.{Framed}
 use Rattle.tags.specs.Tags.{namedTags, otherTags, headX, headW, entryX, entryW, tidy, allTidy, upTo, past, parts, lookup}
-use Rattle.entries.specs.Values.{_>>=_, need, Values, seqAt, heardAt, instrumentAt, lastAt, loopsAt, countAt}
+use Rattle.entries.specs.Values.{Values, seqAt, heardAt, instrumentAt, lastAt, loopsAt, countAt}
 use Rattle.entries.specs.Entries.{entryInX, entryInW}
-use Rattle.fields.specs.Messages.{otherOf, groupOf, onto, each, changesOf, headOf, running, firsts, snapshotOf, orBadFields, typedAs, framedAs, messageIn}
+use Rattle.group.specs.Groups.{groupOf, onto, each, running, firsts}
+use Rattle.lead.specs.Messages.{otherOf, changesOf, headOf, snapshotOf, orBadFields, typedAs}
+use Rattle.fields.specs.Messages.{framedAs, messageIn}
 use Rattle.inrange.specs.InRange.{ReadInRange}
 use Rattle.inrange.proofs.Okay.{okay, bind, needed, and-both}
 use Rattle.inrange.proofs.Entries.{whole-okay, heard-okay, instrument-okay, changeFine, x-okay, w-okay}

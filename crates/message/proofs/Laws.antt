@@ -1,5 +1,5 @@
 -- What is told is said. Assumes nothing.
-use mathlib.Core.Path.{_≡_, refl}
+use mathlib.Core.Path.{refl}
 use native.Mathlib.Omega.{arith}
 use Rattle.message.specs.Message.{numbered, snapshot, refused, told}
 use Rattle.message.specs.Laws.{ToldIsSaid, ToldFits}

@@ -1,6 +1,6 @@
 -- What is shown of a message and the reader's answer: what is told is said.
 use mathlib.Core.Path.{_≡_}
-use Prim.Native.Nat.{ℕ, _≤_}
+use Prim.Native.Nat.{_≤_}
 use lib.ListN.{length}
 use Rattle.message.specs.Message.{Message, numbered, snapshot, refused, told, said}
 

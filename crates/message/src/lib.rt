@@ -1,5 +1,7 @@
 // What a message says once it is read: its type's part and its numbers, by value (document 01, "Frame" and "Fields"). The reader
 // answers one of these, and writes the entries of the message as a run of numbers; a board takes both.
+ghost use mathlib.Core.Path.{_≡_};
+ghost use Rattle.message.specs.Message.{refused, told};
 
 // 34, 369 and 911 are at most this.
 pub const MOST_NUMBER: u64 = 4294967295;
@@ -35,4 +37,19 @@ pub struct Reading {
     pub last: u64,
     pub loops: u64,
     pub count: usize,
+}
+
+// A message that is not read.
+pub fn unread(why: Refusal) -> Reading
+    ensures { λ r. ⌜ r ≡ told (refused why) .reading ⌝ }
+{
+    Reading {
+        verdict: Verdict::Refused(why),
+        number: 0,
+        heard: 0,
+        id: 0,
+        last: 0,
+        loops: 0,
+        count: 0,
+    }
 }

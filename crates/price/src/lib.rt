@@ -4,7 +4,7 @@ use digits::Number;
 ghost use mathlib.Core.Path.{_≡_};
 ghost use Prim.Native.Nat.{_+_, _-_, _*_, _^_, _≤_, _<_};
 ghost use lib.ListN.{length};
-ghost use lib.IntN.{pos, negsuc, negℤ, natAbs};
+ghost use lib.IntN.{pos, negℤ, natAbs};
 ghost use Rattle.text.specs.Text.{Wrote};
 ghost use Rattle.price.specs.Price.{unit, top, ahead, amountOf, priceOf};
 ghost use Rattle.price.specs.PriceText.{decimals, amountText, priceText};

@@ -1,15 +1,15 @@
 -- The heard moment is that of the stream's message of our last number. Assumes nothing.
-use mathlib.Core.Path.{_≡_, refl, sym, ap, _∙_, subst}
-use mathlib.Core.Bool.{Bool, true, false, cond, _||_}
+use mathlib.Core.Path.{_≡_, refl, sym, ap, _∙_}
+use mathlib.Core.Bool.{Bool, true, false, cond}
 use mathlib.Core.List.{List, [], _∷_, map}
-use Prim.Native.Nat.{ℕ, suc, _+_, _≤_, _<_}
+use Prim.Native.Nat.{ℕ, suc, _+_}
 use native.Mathlib.Omega.{arith}
-use lib.Dec.{leb, ltb, eqb}
+use lib.Dec.{leb, ltb}
 use lib.ListN.{length}
 use Rattle.book.specs.Rules.{Lists, Outcome, leaves, breach}
 use Rattle.book.specs.declared.Update.{Update}
-use Rattle.message.specs.Message.{Message, Head, numbered, snapshot, refused}
-use Rattle.board.specs.Board.{Board, Inst, Out, out, opened, anyWaiting, look, at, put, withInsts, letGo, settled}
+use Rattle.message.specs.Message.{Message, numbered, snapshot, refused}
+use Rattle.board.specs.Board.{Board, opened, anyWaiting, look, at, letGo, settled}
 use Rattle.board.specs.Count.{aimed, gives, counted, overflows, joined, countBy, count, cleared, numberBy, number}
 use Rattle.board.specs.Snapshot.{shown, run, after, replayed, take, tooWide, snapBy, snap}
 use Rattle.board.specs.Feed.{feed}

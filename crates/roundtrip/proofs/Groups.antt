@@ -17,7 +17,7 @@ use Rattle.board.specs.Ranges.{entryFine}
 use Rattle.board.specs.Snapshot.{entriesOf, shown}
 use Rattle.tags.specs.Tags.{namedTags, entryW, allTidy, upTo, parts}
 use Rattle.entries.specs.Entries.{entryInW}
-use Rattle.fields.specs.Messages.{each, running, firsts}
+use Rattle.group.specs.Groups.{each, running, firsts}
 use Rattle.pen.specs.Entries.{entryFields}
 use Rattle.writer.specs.Snapshot.{sideFields}
 use Rattle.roundtrip.specs.ReadBack.{newFrom, newOf}

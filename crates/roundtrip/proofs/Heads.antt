@@ -15,7 +15,8 @@ use Rattle.book.specs.Rules.{Lists}
 use Rattle.message.specs.Message.{Head}
 use Rattle.tags.specs.Tags.{namedTags, headW, entryW, has, stands, tidy, upTo, past, lookup}
 use Rattle.entries.specs.Values.{bvmf, instrumentOf}
-use Rattle.fields.specs.Messages.{headOf, groupOf}
+use Rattle.group.specs.Groups.{groupOf}
+use Rattle.lead.specs.Messages.{headOf}
 use Rattle.writer.specs.Snapshot.{Letter}
 use Rattle.roundtrip.specs.ReadBack.{InRange}
 use Rattle.roundtrip.proofs.Entries.{number-back}

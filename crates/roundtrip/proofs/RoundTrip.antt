@@ -13,7 +13,8 @@ use Rattle.book.specs.Canonical.{listsIn}
 use Rattle.book.specs.Rules.{Lists}
 use Rattle.book.specs.declared.Book.{Book}
 use Rattle.message.specs.Message.{snapshot}
-use Rattle.fields.specs.Messages.{snapshotOf, orBadFields, typedAs, messageIn}
+use Rattle.lead.specs.Messages.{snapshotOf, orBadFields, typedAs}
+use Rattle.fields.specs.Messages.{messageIn}
 use Rattle.writer.specs.Snapshot.{Letter, snapshotFields, snapshotBytes}
 use Rattle.writer.specs.Writing.{pageOf, writtenOf, outAfter}
 use Rattle.writer.proofs.Promise.{fits, starts}

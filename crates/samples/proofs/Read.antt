@@ -1,8 +1,6 @@
 -- What the messages read as, computed from the definitions. Assumes nothing.
 use mathlib.Core.Path.{_≡_, refl}
-use mathlib.Core.List.{List, [], _∷_}
-use Prim.Native.Nat.{ℕ, _+_, _*_, _%_}
-use lib.IntN.{pos}
+use mathlib.Core.List.{[]}
 use lib.ListN.{length}
 use Rattle.digits.specs.Digits.{digitsOf, wholeOf, rangedOf}
 use Rattle.text.specs.Text.{fixed, widthTo, widthOf, decimal}
@@ -15,10 +13,12 @@ use Rattle.frame.specs.Bytes.{fieldBytes, bytesOf}
 use Rattle.frame.specs.Frames.{frameOf, bodyOf}
 use Rattle.tags.specs.Tags.{has, stands, tidy, upTo, past, parts, allTidy, lookup}
 use Rattle.entries.specs.Values.{bvmf, instrumentOf, sortOf, byOf, momentIn}
-use Rattle.entries.specs.Entries.{valuesOf, bookEntry, emptyBook, entryInX, shownEntry, entryInW}
-use Rattle.message.specs.Message.{Message, numbered, snapshot, refused}
+use Rattle.entries.specs.Entries.{valuesOf, bookEntry, entryInX, shownEntry, entryInW}
+use Rattle.message.specs.Message.{snapshot, refused}
 use Rattle.message.specs.declared.Refusal.the-variants.{BadFields}
-use Rattle.fields.specs.Messages.{otherOf, groupOf, each, changesOf, headOf, running, snapshotOf, orBadFields, typedAs, messageIn}
+use Rattle.group.specs.Groups.{groupOf, each, running}
+use Rattle.lead.specs.Messages.{changesOf, headOf, snapshotOf, orBadFields, typedAs}
+use Rattle.fields.specs.Messages.{messageIn}
 use Rattle.samples.specs.Messages.{empty-book, point-alone, eight-decimals, first, second, third, at-1, at-2, at-4}
 use Rattle.samples.specs.Says.{bid-1, bid-2, first-says, second-says, third-says, shows}
 

@@ -10,7 +10,6 @@ use lib.Dec.{ltb, leb, eqb}
 use lib.ListN.{length, getD, set, length-append, length-take, length-drop}
 use Rattle.digits.proofs.Width.{both}
 use Rattle.frame.specs.Fields.{Field, field}
-use Rattle.frame.specs.Bytes.{fieldBytes}
 use Rattle.frame.specs.Places.{part, fieldAt, broken, left}
 use Rattle.frame.specs.declared.Step.{Step}
 use Rattle.frame.proofs.Walk.{walked, left-on, left-no, found}

@@ -1,6 +1,6 @@
 -- `fields::body` meets its contract: what leads to the entries, then the entries. Assumes nothing.
 use borrow.Author.Needs.{needs}
-use Rattle.fields.proofs.Leading.{reads-as}
+use Rattle.group.proofs.Reading.{reads-as}
 use Rattle.fields.proofs.body.Statement.{statement}
 use Rattle.fields.proofs.body.Tie as tie
 
@@ -11,7 +11,7 @@ listed-requires : tie.Need-listed-requires
 listed-requires c κs = let l = c .before .before .typed .ensures in (l .fair, (l .few, c .before .before .before .before .before .pre))
 
 same-length : tie.Need-same-length
-same-length c = c .before .before .listed .ensures .size
+same-length c = c .before .before .listed .ensures .run .size
 
 returns : tie.Need-returns
 returns c = reads-as (c .before .before .listed .ensures) (c .before .before .before .before .before .typed .ensures .says _)

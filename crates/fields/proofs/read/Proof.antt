@@ -1,8 +1,9 @@
 -- `fields::read` meets its contract: the outline, then the body, and where either is refused the frame. Assumes nothing.
-use mathlib.Core.Path.{refl, sym, ap, _∙_}
+use mathlib.Core.Path.{sym, ap, _∙_}
 use native.Mathlib.Omega.{arith}
 use borrow.Author.Needs.{needs}
 use Rattle.frame.proofs.Messages.{outline}
+use Rattle.group.proofs.Reading.{spared-all}
 use Rattle.fields.proofs.Whole.{wasRead, no-frame, no-outline, body-refused, body-read}
 use Rattle.fields.proofs.read.Statement.{statement}
 use Rattle.fields.proofs.read.Tie as tie
@@ -17,7 +18,7 @@ refusal-requires : tie.Need-refusal-requires
 refusal-requires c κs = search needs
 
 returns : tie.Need-returns
-returns c = no-outline _ _ (c .refusal .ensures) (λ kind from e. no-frame _ (c .before .match .keys2) kind from (c .before .before .outline .ensures ∙ e)) refl
+returns c = no-outline _ _ (c .refusal .ensures) (λ kind from e. no-frame _ (c .before .match .keys2) kind from (c .before .before .outline .ensures ∙ e)) (spared-all _)
 
 sub-end : tie.Need-sub-end
 sub-end c = let o = outline _ _ _ (sym (c .before .before .before .outline .ensures) ∙ c .before .kind .given .1) in omega (arith, o .long)

@@ -3,7 +3,7 @@ use mathlib.Core.Path.{_≡_, sym, ap, _∙_}
 use borrow.Author.Needs.{needs}
 use Rattle.message.specs.Message.{refused, told}
 use Rattle.frame.specs.declared.Framed.{Framed}
-use Rattle.fields.specs.Groups.{refusalOf}
+use Rattle.fields.specs.Messages.{refusalOf}
 use Rattle.fields.proofs.refusal.Statement.{statement}
 use Rattle.fields.proofs.refusal.Tie as tie
 

@@ -1,0 +1,4 @@
+pub mod Positions
+pub mod Grouping
+pub mod Reading
+pub mod Listing
