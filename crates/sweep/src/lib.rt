@@ -283,22 +283,36 @@ fn settled(s: Swept, from: usize) -> usize
     from
 }
 
-// `more` of the first place that one of the sides holds, or 0.
-fn sample(store: &[u64], sides: usize) -> u64
-    requires { ⌜ (storeSize ≤ length (now store)) × (sides ≤ 32) ⌝ }
+// Where the places of the first of n sides start that holds a four, or those of the first side.
+fn first_four(store: &[u64], n: usize) -> usize
+    requires { ⌜ (storeSize ≤ length (now store)) × (n ≤ 32) ⌝ }
+    ensures { λ r. ⌜ r ≤ 4129 ⌝ }
 {
     let mut j = 0usize;
-    while j < sides {
-        if store[store::BIDS + j * store::SIDE] != 0 {
-            return store[store::BIDS + j * store::SIDE + 4];
+    while j < n {
+        if 4 <= store[store::BIDS + j * store::SIDE] {
+            return store::BIDS + j * store::SIDE + 1;
         }
         j += 1;
     }
-    0
+    store::BIDS + 1
 }
 
-// The way that a place with this second word suggests for all: no id has one, or the first word of each has 8 bytes.
-fn way_like(more: u64, most: u64, full: u64) -> Way
+// Words are mixed.
+fn mixed_way(most: u64) -> Way
+    requires { ⌜ 1 ≤ most ⌝ }
+    ensures { λ r. ⌜ ((full : ℕ) → Limits r most full) ⌝ }
+{
+    Way {
+        low: 1,
+        top: most,
+        mixed: true,
+    }
+}
+
+// The way that a four suggests for all: no id has a second word; or the first word of each has 8 bytes; or they are mixed. `by` has
+// `full` taken off.
+fn way_like(by: u64, more: u64, most: u64, full: u64) -> Way
     requires { ⌜ 1 ≤ most ⌝ }
     ensures { λ r. ⌜ Limits r most full ⌝ }
 {
@@ -313,6 +327,9 @@ fn way_like(more: u64, most: u64, full: u64) -> Way
     if (full < 1) | (most < full) {
         return short;
     }
+    if most - full < by {
+        return mixed_way(most);
+    }
     Way {
         low: full,
         top: most,
@@ -320,21 +337,28 @@ fn way_like(more: u64, most: u64, full: u64) -> Way
     }
 }
 
-// Whether the first n sides are sound: in the way that the first place suggests as far as that goes, and in the mixed one from there
+// The way that the first four of n sides suggests.
+fn way_of(store: &[u64], n: usize, most: u64, full: u64) -> Way
+    requires { ⌜ (storeSize ≤ length (now store)) × (n ≤ 32) × (1 ≤ most) ⌝ }
+    ensures { λ r. ⌜ Limits r most full ⌝ }
+{
+    let at = first_four(store, n);
+    let by = four(store, at + 2, full);
+    let more = four(store, at + 3, 0);
+    way_like(by, more, most, full)
+}
+
+// Whether the first n sides are sound: in the way that the first four suggests as far as that goes, and in the mixed one from there
 // on. False says nothing.
 pub fn tried(store: &[u64], marks: u64, n: usize, most: u64, full: u64) -> bool
     requires { ⌜ (storeSize ≤ length (now store)) × (n ≤ 32) × (1 ≤ most) ⌝ }
     ensures { λ r. ⌜ (r ≡ true → Sides most full marks (now (store .entry)) 0 n) ⌝ }
 {
-    let way = way_like(sample(store, n), most, full);
+    let way = way_of(store, n, most, full);
     let first = settled(sweep(store, marks, 0, n, way, most, full), 0);
     if first == n {
         return true;
     }
-    let mixed = Way {
-        low: 1,
-        top: most,
-        mixed: true,
-    };
+    let mixed = mixed_way(most);
     settled(sweep(store, marks, first, n, mixed, most, full), first) == n
 }

@@ -1,14 +1,14 @@
--- `sample` reads inside the store, and ends.
+-- `first_four` meets its contract.
 use Prim.Native.Nat.{_-_, _≤_}
 use borrow.Author.Needs.{needs}
-use Rattle.sweep.proofs.sample.Statement.{statement}
-use Rattle.sweep.proofs.sample.Tie as tie
+use Rattle.sweep.proofs.first_four.Statement.{statement}
+use Rattle.sweep.proofs.first_four.Tie as tie
 
 abbrev Inv-loop : tie.InvT-loop
-Inv-loop store sides j₀ j = j ≤ sides
+Inv-loop store n j₀ j = j ≤ n
 
 abbrev μ-loop : tie.MeasureT-loop
-μ-loop store sides j₀ j = sides - j
+μ-loop store n j₀ j = n - j
 
 loop-holds : tie.Need-loop-holds Inv-loop μ-loop
 loop-holds c = search needs
@@ -34,12 +34,6 @@ add-result c = search needs
 add-result-2 : tie.Need-add-result-2 Inv-loop μ-loop
 add-result-2 c = search needs
 
-mul-result-2 : tie.Need-mul-result-2 Inv-loop μ-loop
-mul-result-2 c = search needs
-
-shared-slice-read-result : tie.Need-shared-slice-read-result Inv-loop μ-loop
-shared-slice-read-result c = search needs
-
 returns : tie.Need-returns Inv-loop μ-loop
 returns c = search needs
 
@@ -52,11 +46,14 @@ loop-less c = search needs
 loop-again : tie.Need-loop-again Inv-loop μ-loop
 loop-again c = search needs
 
+add-result-3 : tie.Need-add-result-3 Inv-loop μ-loop
+add-result-3 c = search needs
+
 returns-2 : tie.Need-returns-2 Inv-loop μ-loop
 returns-2 c = search needs
 
-pub sample-spec : {M : Type 1} → statement M
-sample-spec =
+pub first-four-spec : {M : Type 1} → statement M
+first-four-spec =
     tie.close
     (tie.spec
     Inv-loop
@@ -69,10 +66,9 @@ sample-spec =
     mul-result
     add-result
     add-result-2
-    mul-result-2
-    shared-slice-read-result
     returns
     add-j
     loop-less
     loop-again
+    add-result-3
     returns-2)
