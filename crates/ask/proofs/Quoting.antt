@@ -3,11 +3,11 @@ use mathlib.Core.Path.{_≡_, refl, _∙_}
 use mathlib.Core.Bool.{Bool, true, false, cond, _&&_}
 use mathlib.Core.List.{List, [], _∷_}
 use Prim.Native.Nat.{ℕ, _*_, _≤_, _<_}
-use lib.Dec.{ltb, leb, eqb}
+use lib.Dec.{leb, eqb}
 use lib.IntN.{pos}
 use lib.Signed.{ltZ}
 use lib.ListN.{length}
-use borrow.Author.Tests.{le-leb, lt-leb, leb-false, eqb-false, ltb-true}
+use borrow.Author.Tests.{le-leb, lt-leb, leb-false, eqb-false}
 use Rattle.digits.specs.declared.Number.{Number}
 use Rattle.moment.specs.Moments.{moments, momentOf}
 use Rattle.moment.specs.Ages.{ageOf}

@@ -1,14 +1,11 @@
 -- When p is one of the places 1 to n, as the test says it and as numbers say it, and where the test leads.
-use mathlib.Core.Path.{_≡_, refl, _∙_, sym}
-use mathlib.Core.Bool.{Bool, true, false, cond, not, _&&_}
+use mathlib.Core.Path.{_≡_, refl}
+use mathlib.Core.Bool.{Bool, true, false, cond, _&&_}
 use Prim.Native.Nat.{ℕ, _≤_, _<_}
 use native.Mathlib.Omega.{arith}
 use lib.Dec.{leb}
-use borrow.Author.Tests.{leb-true, le-leb, lt-leb, not-true, not-false}
-use Rattle.book.specs.declared.Side.{Side}
-use Rattle.book.specs.declared.Done.{Done}
-use Rattle.book.specs.Rules.{badPlace, isPlace}
-use Rattle.book.specs.Sides.{refused, heldAt}
+use borrow.Author.Tests.{leb-true, le-leb, lt-leb}
+use Rattle.book.specs.Rules.{isPlace}
 
 -- a test, by what holds either way
 pub by-test : {A : Type 0} (R : A → Type 0) (t : Bool) {x y : A} → (t ≡ true → R x) → (t ≡ false → R y) → R (cond t x y)

@@ -12,6 +12,9 @@ ghost use Rattle.cells.specs.Cells.{zeros, words, entryAt, sideSize, sid
 // The numbers of an entry.
 pub const ENTRY: usize = 5;
 
+// The numbers of a side: how many places are held, and 20 entries.
+pub const SIDE: usize = 101;
+
 // The numbers of an update, and where among them stand what it is of and its entry.
 pub const UPDATE: usize = 9;
 

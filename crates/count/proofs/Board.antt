@@ -1,24 +1,23 @@
 -- What a message with a number leaves in the store is the board after it, and the store is canonical again.
 use mathlib.Core.Path.{_≡_, refl, sym, ap, _∙_}
 use mathlib.Core.Bool.{Bool, true, false, cond, not}
-use mathlib.Core.List.{List, []}
-use Prim.Native.Nat.{ℕ, _+_, _≤_}
+use mathlib.Core.List.{List}
+use Prim.Native.Nat.{ℕ, _+_}
 use native.Mathlib.Omega.{arith}
 use lib.Dec.{leb, eqb}
 use borrow.Author.Tests.{eqb-true, eqb-false}
 use Rattle.book.specs.declared.Update.{Update}
 use Rattle.book.proofs.Tests.{by-test}
 use Rattle.cells.specs.Cells.{tab}
-use Rattle.board.specs.Board.{Board, Out, out, settled}
-use Rattle.board.specs.Board.{letGo as letGoB}
-use Rattle.board.specs.Count.{gives, joined, counted, overflows, countBy, count, cleared, numberBy, number}
-use Rattle.store.specs.Meaning.{boardOf, State, st, boardIn}
+use Rattle.board.specs.Board.{out, settled}
+use Rattle.board.specs.Count.{gives, joined, counted, countBy, count, numberBy, number}
+use Rattle.store.specs.Meaning.{boardOf, State, boardIn}
 use Rattle.store.specs.Canon.{Formed, Canon}
 use Rattle.store.specs.Steps.{gapS}
 use Rattle.store.specs.Answers.{FedS, fed, meant}
 use Rattle.store.proofs.Marked.{any-board}
 use Rattle.store.proofs.Cleared.{gap-board, gap-canon}
-use Rattle.queue.specs.Joins.{settleS, overS, joinS}
+use Rattle.queue.specs.Joins.{overS, joinS}
 use Rattle.queue.proofs.Joining.{join-formed, join-marks, settle-none}
 use Rattle.queue.proofs.Board.{join-board, over-board, settle-board}
 use Rattle.deliver.specs.Gives.{giveAllS}

@@ -1,34 +1,33 @@
 -- The book of an instrument takes an entry in the store: only its own numbers change, to those of the book after the entry.
-use mathlib.Core.Path.{_≡_, refl, sym, ap, _∙_}
-use mathlib.Core.Bool.{Bool, true, false, cond}
-use mathlib.Core.List.{List, [], _∷_}
-use mathlib.Core.Logic.{_⊎_, inl, inr}
-use Prim.Native.Nat.{ℕ, _+_, _*_, _≤_, _<_}
+use mathlib.Core.Path.{_≡_, refl, sym, _∙_}
+use mathlib.Core.Bool.{Bool, true, false}
+use mathlib.Core.List.{List}
+use mathlib.Core.Logic.{inl}
+use Prim.Native.Nat.{ℕ, _+_, _*_, _<_}
 use native.Mathlib.Omega.{arith}
 use lib.Dec.{eqb}
-use lib.ListN.{length, getD}
+use lib.ListN.{length}
 use lib.Seq.{sets}
-use Rattle.book.specs.declared.Side.{Side}
 use Rattle.book.specs.declared.Book.{Book}
 use Rattle.book.specs.declared.Update.{Update}
 use Rattle.book.specs.declared.Turn.{Turn}
 use Rattle.book.specs.Rules.{Lists}
-use Rattle.book.specs.Sides.{noBook, sideStep, bookStep}
-use Rattle.book.specs.Canonical.{Kept, KeptBook, listsIn}
+use Rattle.book.specs.Sides.{noBook, bookStep}
+use Rattle.book.specs.Canonical.{KeptBook, listsIn}
 use borrow.Author.Tests.{eqb-true}
 use Rattle.book.proofs.Untouched.{a-bid, an-offer}
 use Rattle.book.proofs.Keeping.{kept-side, kept-apply}
 use Rattle.cells.specs.Cells.{zeros, sideAt, sideWords, sideSize}
 use Rattle.cells.proofs.Tables.{in-zeros}
 use Rattle.cells.proofs.Windows.{length-side-words}
-use Rattle.board.specs.Board.{Inst, Board, at, put}
+use Rattle.board.specs.Board.{Inst, at, put}
 use Rattle.store.specs.Layout.{idOf, reasonOf, bidsOf, offersOf}
 use Rattle.store.specs.Meaning.{bookAt, instAt, State, st, boardIn}
-use Rattle.store.specs.Canon.{Unused, Spare, Formed}
+use Rattle.store.specs.Canon.{Spare, Formed}
 use Rattle.store.proofs.Regions.{Agree, agree-sets, agree-zeros, agree-wider, number-apart}
 use Rattle.store.proofs.Decode.{inst-is, inst-other, own-bids, own-offers, own-zeros, queue-behind, at-board, put-board}
 use Rattle.store.proofs.Kept.{spare-agree, formed-book}
-use Rattle.deliver.specs.Gives.{Taken, taken, worked, applyS}
+use Rattle.deliver.specs.Gives.{Taken, worked, applyS}
 
 -- what the store t is to the store xs whose book i it changed
 pub record Applies (f q i : ℕ) (u : Update) (xs : List ℕ) (t : Taken) : Type 0 where

@@ -1,27 +1,25 @@
 -- A break in the store is the break on the board, and leaves the store formed.
-use mathlib.Core.Path.{_≡_, refl, sym, ap, _∙_}
-use mathlib.Core.Bool.{Bool, true, false, _||_}
+use mathlib.Core.Path.{_≡_, refl, sym, _∙_}
+use mathlib.Core.Bool.{true}
 use mathlib.Core.List.{List, [], _∷_}
-use mathlib.Core.Logic.{_⊎_, inl, inr}
-use Prim.Native.Nat.{ℕ, _+_, _*_, _≤_, _<_, _^_}
+use mathlib.Core.Logic.{inl, inr}
+use Prim.Native.Nat.{ℕ, _+_, _≤_, _<_, _^_}
 use native.Mathlib.Omega.{arith}
-use lib.Bits.{bitAnd, bitOr, or-lt, or-add-and, and-le-r}
+use lib.Bits.{or-lt, or-add-and, and-le-r}
 use lib.Dec.{eqb}
 use lib.Pow.{pow-lt}
-use lib.ListN.{length, getD}
 use lib.Seq.{sets, getD-set-same}
 use borrow.Author.Tests.{eq-eqb, ne-eqb}
 use Rattle.book.specs.Sides.{noBook}
-use Rattle.book.specs.Canonical.{listsIn}
 use Rattle.book.proofs.Canon.{kept-no-book}
 use Rattle.cells.specs.Cells.{zeros}
 use Rattle.cells.proofs.Stores.{below-or}
 use Rattle.cells.proofs.Tables.{in-zeros}
 use Rattle.heading.specs.Marks.{marked, withMark}
 use Rattle.heading.proofs.Bits.{marked-with}
-use Rattle.board.specs.Board.{Inst, Board, at, put, broken}
+use Rattle.board.specs.Board.{at, put, broken}
 use Rattle.store.specs.Layout.{idOf, reasonOf, bidsOf}
-use Rattle.store.specs.Meaning.{bookAt, instAt, State, st, boardIn}
+use Rattle.store.specs.Meaning.{instAt, State, st, boardIn}
 use Rattle.store.specs.Canon.{Formed}
 use Rattle.store.proofs.Regions.{Agree, Apart, agree-sets, agree-zeros, number-apart}
 use Rattle.store.proofs.Decode.{inst-is, inst-marks, inst-apart, inst-other, book-apart, own-zeros, queue-behind, at-board, put-board}

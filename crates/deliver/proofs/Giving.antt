@@ -2,15 +2,14 @@
 use mathlib.Core.Path.{_≡_, refl, sym, ap, _∙_}
 use mathlib.Core.Bool.{Bool, true, false, cond}
 use mathlib.Core.List.{List, [], _∷_}
-use Prim.Native.Nat.{ℕ, _+_, _≤_, _<_, _^_}
+use Prim.Native.Nat.{ℕ, _≤_, _<_}
 use native.Mathlib.Omega.{arith}
 use lib.Dec.{leb, eqb}
 use lib.ListN.{length, getD, set}
 use lib.Seq.{set-out, set-set, set-getD, getD-set-same}
 use borrow.Author.Tests.{leb-true, leb-false}
 use Rattle.book.specs.declared.Update.{Update}
-use Rattle.book.specs.Rules.{Outcome, leaves, breach, Lists, applied}
-use Rattle.book.specs.Sides.{bookStep}
+use Rattle.book.specs.Rules.{leaves, breach, applied}
 use Rattle.book.specs.Canonical.{listsIn}
 use Rattle.book.proofs.Tests.{by-test}
 use Rattle.heading.specs.Marks.{marked}

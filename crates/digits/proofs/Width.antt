@@ -1,5 +1,5 @@
 -- The width of digits read is one fact: what w digits write is below ten to the w. Assumes nothing.
-use mathlib.Core.Path.{_≡_, refl, _∙_, sym}
+use mathlib.Core.Path.{_≡_, refl}
 use mathlib.Core.List.{List, [], _∷_}
 use mathlib.Core.Bool.{Bool, true, false, _&&_, cond, false≢true}
 use Prim.Native.Nat.{ℕ, zero, suc, _+_, _-_, _*_, _^_, _≤_, _<_}
@@ -9,8 +9,7 @@ use native.Mathlib.Omega.{arith}
 use lib.Dec.{leb, eqb}
 use borrow.Author.Tests.{leb-true}
 use lib.ListN.{length, getD}
-use Rattle.digits.specs.Digits.{isDigit, allDigits, value, digitsOf, wholeOf, rangedOf, within}
-use Rattle.digits.specs.declared.Number.{Number}
+use Rattle.digits.specs.Digits.{isDigit, allDigits, value, digitsOf, wholeOf}
 use Rattle.digits.specs.declared.Number.the-variants.{Is, No}
 
 -- one digit more

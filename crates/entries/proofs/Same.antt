@@ -1,5 +1,5 @@
 -- An entry is read by the values of its tags alone. Assumes nothing.
-use mathlib.Core.Path.{_≡_, refl}
+use mathlib.Core.Path.{_≡_}
 use Prim.Native.Nat.{ℕ, _<_}
 use native.Mathlib.Omega.{arith}
 use Rattle.tags.specs.Slots.{slotOf}

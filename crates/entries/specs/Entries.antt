@@ -1,6 +1,5 @@
 -- What an entry says (document 01, "Fields", third paragraph). Values that an entry doesn't need are not read.
 use Prim.Native.Nat.{ℕ}
-use mathlib.Core.List.{List, []}
 use mathlib.Core.Bool.{cond}
 use mathlib.Core.Option.{Option, none, some}
 use lib.Dec.{leb, eqb}

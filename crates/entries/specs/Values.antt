@@ -1,5 +1,5 @@
 -- The values of tags (document 01, "Fields", first paragraph): a value that is missing or out of its range is none.
-use Prim.Native.Nat.{ℕ, _+_, _*_}
+use Prim.Native.Nat.{ℕ}
 use lib.IntN.{ℤ}
 use mathlib.Core.List.{List, [], _∷_}
 use mathlib.Core.Bool.{Bool, true, false, cond, _&&_}

@@ -10,12 +10,10 @@ use lib.Dec.{leb, eqb}
 use lib.ListN.{length, getD, take, drop, length-take, length-drop}
 use lib.Seq.{getD-take, getD-drop}
 use Rattle.digits.specs.Digits.{digitsOf, wholeOf, rangedOf, within}
-use Rattle.digits.specs.declared.Number.{Number}
 use Rattle.digits.specs.declared.Number.the-variants.{Is, No}
 use Rattle.digits.proofs.Steps.{rest, none, long, fit, short, zeroed, unzeroed, low, high, more, done}
 use Rattle.digits.proofs.Ranges.{ranged-back}
 use Rattle.digits.proofs.Width.{push, whole-below}
-use Rattle.frame.specs.Fields.{ahead}
 use Rattle.frame.specs.Places.{part, firstOf, fieldAt}
 use Rattle.frame.specs.ByPlace.{Tells}
 use Rattle.frame.specs.declared.Step.{Step}

@@ -1,16 +1,16 @@
 -- Laws of marks. Assumes nothing.
 use mathlib.Core.Path.{_≡_, refl, sym, ap, _∙_, subst}
 use mathlib.Core.Bool.{Bool, true, false, cond, not, _&&_, _||_}
-use mathlib.Core.Logic.{_⊎_, inl, inr, ⊎-elim}
+use mathlib.Core.Logic.{_⊎_, ⊎-elim}
 use Prim.Native.Nat.{ℕ, zero, suc, _+_, _*_, _-_, _/_, _%_, _^_, _≤_, _<_}
-use native.Mathlib.Nat.{div-one, add-zero, add-suc, add-assoc, add-comm, pow-suc, mod-lt, mod-eq-of-lt, zero-lt-suc, zero-mul, zero-add}
+use native.Mathlib.Nat.{div-one, add-assoc, add-comm, mod-lt, mod-eq-of-lt, zero-lt-suc, zero-mul, zero-add}
 use native.Mathlib.Omega.{arith}
-use lib.Dec.{ltb, leb, eqb}
+use lib.Dec.{ltb, eqb}
 use lib.Bits.{bitAnd, bitOr, and-shr, or-shr, and-mod, or-mod}
 use lib.Count.{ones, onesIn, ones-step}
 use lib.Pow.{shr-lt, shr-shr, split, pow-pos, mod-pow-add}
 use native.Mathlib.Numerals.{add-one}
-use borrow.Author.Tests.{eq-eqb, ne-eqb, eqb-true, eqb-false, lt-ltb, ltb-true}
+use borrow.Author.Tests.{ne-eqb, eqb-true, eqb-false, ltb-true}
 use Rattle.heading.specs.Marks.{bit, marked, markedIn, withMark, withoutMark, allMarks}
 
 half-lt : (n k : ℕ) → n < 2 ^ suc k → n / 2 < 2 ^ k

@@ -2,13 +2,12 @@
 use mathlib.Core.Path.{_≡_, refl}
 use mathlib.Core.Bool.{Bool, true, false, cond, _&&_}
 use mathlib.Core.List.{List, [], _∷_}
-use mathlib.Core.Option.{Option, none, some}
-use Prim.Native.Nat.{ℕ, _+_, _*_, _≤_, _<_}
+use mathlib.Core.Option.{none, some}
+use Prim.Native.Nat.{ℕ, _+_, _*_}
 use native.Mathlib.Omega.{arith}
-use borrow.Author.Tests.{le-leb, lt-ltb, leb-true}
+use borrow.Author.Tests.{le-leb, lt-ltb}
 use lib.Dec.{leb, ltb, eqb}
-use lib.IntN.{ℤ, natAbs}
-use lib.ListN.{length}
+use lib.IntN.{natAbs}
 use Rattle.digits.specs.Digits.{rangedOf}
 use Rattle.digits.specs.declared.Number.{Number}
 use Rattle.digits.specs.declared.Number.the-variants.{Is, No}
@@ -26,8 +25,8 @@ use Rattle.book.specs.declared.Entry.{Entry}
 use Rattle.book.specs.declared.Update.{Update}
 use Rattle.book.specs.Sides.{noEntry}
 use Rattle.board.specs.Ranges.{within, mostId, mostSize, mostOrders, idFine, priceFine, sizeFine, momentFine, ordersFine, byFine, entryFine, noneFine, updateFine, shownFine}
-use Rattle.entries.specs.Values.{_>>=_, need, Values, number, wholeAt, actionAt, placeAt, sizeAt, heardAt, identified, bvmf, instrumentOf, instrumentAt, sortOf, sortAt, price, priceAt, By, orders, byOf, by, byAt, momentIn, momentAt}
-use Rattle.entries.specs.Entries.{valuesOf, says, bookEntry, emptyBook, entryInX, shownEntry, entryInW}
+use Rattle.entries.specs.Values.{Values, number, wholeAt, actionAt, placeAt, sizeAt, heardAt, identified, bvmf, instrumentOf, instrumentAt, sortOf, sortAt, price, priceAt, By, orders, byOf, by, byAt, momentIn, momentAt}
+use Rattle.entries.specs.Entries.{valuesOf, bookEntry, emptyBook, entryInX, shownEntry, entryInW}
 use Rattle.frame.specs.Frames.{equal}
 use Rattle.inrange.proofs.Okay.{okay, bind}
 

@@ -1,6 +1,5 @@
 // One field and one entry of a snapshot, written into lent bytes at a place (document 01, "Quote and writing"). Each
 // answer is the place after what was written. A byte past the end is left out, as in crate text.
-ghost use mathlib.Core.Path.{_≡_};
 ghost use mathlib.Core.List.{[], _∷_, _++_};
 ghost use Prim.Native.Nat.{_+_, _^_, _≤_, _<_};
 ghost use lib.Dec.{eqb};

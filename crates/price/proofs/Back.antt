@@ -3,19 +3,18 @@ use mathlib.Core.Path.{_≡_, refl, sym, ap, _∙_}
 use mathlib.Core.Bool.{Bool, true, false, cond, not, _&&_}
 use mathlib.Core.List.{List, [], _∷_, _++_, append-nil}
 use Prim.Native.Nat.{ℕ, zero, suc, _+_, _-_, _*_, _/_, _%_, _^_, _≤_, _<_}
-use native.Mathlib.Nat.{add-zero, pow-suc, mul-one, sub-self}
+use native.Mathlib.Nat.{pow-suc, mul-one, sub-self}
 use native.Mathlib.Omega.{arith}
 use native.Mathlib.Numerals.{add-one}
-use borrow.Author.Tests.{leb-true, eqb-true, eqb-false, lt-ltb, le-leb, eq-eqb, ne-eqb}
-use lib.Dec.{leb, ltb, eqb}
+use borrow.Author.Tests.{leb-true, eqb-true, eqb-false, le-leb, eq-eqb, ne-eqb}
+use lib.Dec.{leb, eqb}
 use lib.IntN.{ℤ, pos, negsuc, natAbs}
 use lib.Signed.{ltZ}
-use lib.ListN.{length, take, drop, length-append}
+use lib.ListN.{length, take, drop}
 use lib.Seq.{take-append-seam, drop-append-seam, take-length, drop-length}
 use Rattle.digits.specs.Digits.{isDigit, allDigits, value, digitsOf}
-use Rattle.price.specs.Price.{unit, top, ahead, scaled, fractionOf, joined, amountOf, priceOf, plus, minus}
-use Rattle.digits.specs.declared.Number.{Number}
-use Rattle.digits.specs.declared.Number.the-variants.{Is, No}
+use Rattle.price.specs.Price.{top, ahead, fractionOf, joined, amountOf, priceOf, plus, minus}
+use Rattle.digits.specs.declared.Number.the-variants.{Is}
 use Rattle.price.specs.declared.Priced.{Priced}
 use Rattle.digits.proofs.Width.{both}
 use Rattle.text.specs.Text.{fixed, widthOf, decimal, free}

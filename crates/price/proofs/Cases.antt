@@ -1,6 +1,6 @@
 -- Marked cases M1 to M4 of document 01, and what the writer does with them. Assumes nothing.
 use mathlib.Core.Path.{_≡_, refl}
-use mathlib.Core.List.{List, [], _∷_}
+use mathlib.Core.List.{[], _∷_}
 use lib.IntN.{pos, negsuc}
 use Rattle.digits.specs.Digits.{digitsOf}
 use Rattle.text.specs.Text.{fixed, widthTo, widthOf, decimal}

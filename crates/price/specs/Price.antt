@@ -2,7 +2,7 @@
 -- 1 to 7 digits; held as a signed whole number of ten-millionths. Assumes nothing.
 use Prim.Native.Nat.{ℕ, _+_, _-_, _*_, _^_}
 use mathlib.Core.List.{List, [], _∷_}
-use mathlib.Core.Bool.{Bool, true, false, cond}
+use mathlib.Core.Bool.{cond}
 use lib.ListN.{length, take, drop}
 use lib.IntN.{pos, negℤ}
 use lib.Dec.{eqb}

@@ -1,15 +1,14 @@
 -- Demand 3 over bytes and calls, from demand 3 over messages and boards. Assumes nothing.
-use mathlib.Core.Path.{_≡_, refl, sym, ap, _∙_}
+use mathlib.Core.Path.{_≡_, refl, _∙_}
 use mathlib.Core.Bool.{true}
 use mathlib.Core.List.{List, [], _∷_, map}
 use Prim.Native.Nat.{ℕ}
-use Rattle.book.specs.Rules.{Lists, leaves}
+use Rattle.book.specs.Rules.{Lists}
 use Rattle.book.specs.declared.Update.{Update}
-use Rattle.message.specs.Message.{Message}
 use Rattle.board.specs.Board.{Board, opened}
 use Rattle.board.specs.Feed.{feed}
 use Rattle.board.specs.Calls as board
-use Rattle.board.specs.Demand.{NumberedFromOne, NeverBreaks, bookAt, Right, Truth, Fair}
+use Rattle.board.specs.Demand.{Right, Fair}
 use Rattle.board.proofs.Demand.{demand3}
 use Rattle.board.proofs.Recovery.{recovers}
 use Rattle.board.proofs.Staying.{same-feed}
@@ -18,7 +17,7 @@ use Rattle.store.specs.Meaning.{boardAt}
 use Rattle.sound.specs.Sound.{sound}
 use Rattle.opening.specs.Opening.{openAnswer, openStore}
 use Rattle.opening.proofs.Laws.{opened-is-sound, opened-is-board}
-use Rattle.feed.specs.Feeding.{fed, feedStore}
+use Rattle.feed.specs.Feeding.{fed}
 use Rattle.feed.proofs.Laws.{feed-keeps-sound, feed-is-board}
 use Rattle.promises.specs.Acts.{Act, feeds, reads, left, lefts, Along}
 use Rattle.promises.specs.Recovery.{readIn, Supposed, RecoversStream, SupposedLess, RecoversTruth}

@@ -2,7 +2,7 @@
 use mathlib.Core.Path.{_≡_, refl, sym, ap, _∙_, subst}
 use mathlib.Core.Bool.{Bool, true, false, cond, _&&_}
 use mathlib.Core.List.{List}
-use Prim.Native.Nat.{ℕ, _+_, _*_, _≤_, _<_}
+use Prim.Native.Nat.{ℕ, _*_, _<_}
 use native.Mathlib.Omega.{arith}
 use borrow.Author.Tests.{leb-true, leb-false}
 use lib.Dec.{leb}
@@ -15,26 +15,25 @@ use Rattle.orderid.specs.OrderIds.{isId}
 use Rattle.board.specs.Board.{Board, look, at, noInst}
 use Rattle.message.specs.Message.{Message}
 use Rattle.board.specs.Feed.{feed}
-use Rattle.board.specs.Calls.{inst}
 use Rattle.board.specs.Ranges.{idFine}
-use Rattle.board.specs.Sound.{Sound, SoundInst}
+use Rattle.board.specs.Sound.{SoundInst}
 use Rattle.board.proofs.Each.{each-at}
 use Rattle.fields.specs.Messages.{messageIn}
 use Rattle.store.specs.Meaning.{boardAt}
 use Rattle.sound.specs.Sound.{sound}
 use Rattle.sound.proofs.Laws.{sound-is-canon}
-use Rattle.writer.specs.Snapshot.{Letter, snapshotBytes}
+use Rattle.writer.specs.Snapshot.{snapshotBytes}
 use Rattle.writer.specs.Writing.{letter, writtenOf, outAfter}
 use Rattle.writer.proofs.Promise.{starts}
-use Rattle.feed.specs.Feeding.{fed, feedStore}
+use Rattle.feed.specs.Feeding.{fed}
 use Rattle.feed.proofs.Laws.{feed-is-board}
-use Rattle.send.specs.Send.{Page, message, refusal, mostLoop, argumentsFine, pageAt, pageFor, sentPage, writtenNumber, pageAnswer, pageOut, sendAnswer, sendOut}
-use Rattle.roundtrip.specs.ReadBack.{InRange, newOf, Sized}
-use Rattle.roundtrip.specs.TakenBack.{Awaits, Taken}
+use Rattle.send.specs.Send.{message, refusal, mostLoop, argumentsFine, pageAt, pageFor, sentPage, writtenNumber, pageAnswer, pageOut, sendAnswer, sendOut}
+use Rattle.roundtrip.specs.ReadBack.{InRange}
+use Rattle.roundtrip.specs.TakenBack.{Taken}
 use Rattle.roundtrip.proofs.Lengths.{page-sized}
 use Rattle.roundtrip.proofs.RoundTrip.{read-back}
 use Rattle.roundtrip.proofs.TakenBack.{taken-back}
-use Rattle.promises.specs.RoundTrip.{TakenBy, SameBook, RoundTrip}
+use Rattle.promises.specs.RoundTrip.{SameBook, RoundTrip}
 
 -- ---- a page that is a message
 module _ (id : ℕ) (sender target : List ℕ) (k m : ℕ) (time xs : List ℕ) where

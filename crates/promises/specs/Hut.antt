@@ -3,8 +3,6 @@
 use mathlib.Core.Path.{_≡_}
 use mathlib.Core.List.{List, [], _∷_}
 use Prim.Native.Nat.{ℕ}
-use Rattle.book.specs.Rules.{Lists}
-use Rattle.board.specs.Board.{Board}
 use Rattle.board.specs.Calls.{inst, Live}
 use Rattle.board.specs.Demand.{NumberedFromOne, NeverBreaks}
 use Rattle.store.specs.Meaning.{boardAt}

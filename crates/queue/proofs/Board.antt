@@ -3,8 +3,7 @@ use mathlib.Core.Path.{_≡_, refl, sym, ap, _∙_}
 use mathlib.Core.Bool.{Bool, true, false, cond, not}
 use mathlib.Core.List.{List, [], _∷_, _++_, append-nil, append-assoc}
 use mathlib.Core.Logic.{inl}
-use Prim.Native.Nat.{ℕ, _+_, _*_, _≤_, _<_}
-use native.Mathlib.Nat.{add-zero}
+use Prim.Native.Nat.{ℕ, _+_, _≤_}
 use native.Mathlib.Omega.{arith}
 use lib.Dec.{ltb, eqb}
 use borrow.Author.Tests.{ltb-false}
@@ -13,12 +12,11 @@ use lib.Seq.{sets}
 use Rattle.book.specs.declared.Update.{Update}
 use Rattle.cells.specs.Cells.{tab, zeros, queuedWords}
 use Rattle.cells.proofs.Tables.{tab-snoc}
-use Rattle.heading.specs.Headings.{letGo, queuedMore}
-use Rattle.board.specs.Board.{Queued, Board, withQueue, anyWaiting, settled}
-use Rattle.board.specs.Board.{letGo as letGoB}
+use Rattle.heading.specs.Headings.{queuedMore}
+use Rattle.board.specs.Board.{Board, withQueue, settled}
 use Rattle.board.specs.Count.{joining, longer, overflows, joined}
 use Rattle.store.specs.Layout.{slotOf}
-use Rattle.store.specs.Meaning.{instAt, queuedAt, boardOf, State, st, boardIn}
+use Rattle.store.specs.Meaning.{queuedAt, boardOf, State, st, boardIn}
 use Rattle.store.specs.Canon.{Formed}
 use Rattle.store.proofs.Regions.{agree-sets, agree-zeros}
 use Rattle.store.proofs.Decode.{insts-before, queue-apart, queued-back, insts-length, queue-length}

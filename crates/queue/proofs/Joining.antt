@@ -1,24 +1,23 @@
 -- What joining leaves of a heading and of the store's length, and that it leaves a formed store formed.
-use mathlib.Core.Path.{_≡_, refl, sym, ap, _∙_}
+use mathlib.Core.Path.{_≡_, refl, sym, _∙_}
 use mathlib.Core.Bool.{Bool, true, false, cond}
 use mathlib.Core.List.{List, [], _∷_}
-use mathlib.Core.Logic.{_⊎_, inl, inr, ⊎-elim}
-use Prim.Native.Nat.{ℕ, _+_, _*_, _≤_, _<_}
+use mathlib.Core.Logic.{_⊎_, inl, ⊎-elim}
+use Prim.Native.Nat.{ℕ, _+_, _≤_, _<_}
 use native.Mathlib.Nat.{add-zero}
 use native.Mathlib.Omega.{arith}
 use lib.Dec.{ltb, eqb}
 use borrow.Author.Tests.{ltb-false, eqb-false, ne-eqb}
-use lib.ListN.{length}
 use lib.Seq.{sets}
 use Rattle.book.specs.declared.Update.{Update}
 use Rattle.book.proofs.Tests.{by-test}
 use Rattle.cells.specs.Cells.{zeros, queuedWords}
 use Rattle.cells.proofs.Tables.{in-zeros}
-use Rattle.heading.specs.Headings.{letGo, queuedMore}
+use Rattle.heading.specs.Headings.{queuedMore}
 use Rattle.store.specs.Layout.{slotOf}
 use Rattle.store.specs.Meaning.{State, st}
-use Rattle.store.specs.Canon.{Unused, Formed, Canon}
-use Rattle.store.proofs.Regions.{Agree, agree-sets, agree-zeros}
+use Rattle.store.specs.Canon.{Formed, Canon}
+use Rattle.store.proofs.Regions.{agree-sets, agree-zeros}
 use Rattle.store.proofs.Decode.{book-apart}
 use Rattle.store.proofs.Kept.{spare-agree}
 use Rattle.queue.specs.Joins.{letGoS, settleS, joinOneS, joinAllS, howMany, overS, joinS}

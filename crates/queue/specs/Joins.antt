@@ -7,7 +7,6 @@ use lib.Dec.{ltb, eqb}
 use lib.Seq.{sets}
 use Rattle.book.specs.declared.Update.{Update}
 use Rattle.cells.specs.Cells.{zeros, queuedWords}
-use Rattle.heading.specs.declared.Heading.{Heading}
 use Rattle.heading.specs.Headings.{letGo, queuedMore}
 use Rattle.board.specs.Count.{mostQueued}
 use Rattle.store.specs.Layout.{atQueue, queueSize, slotOf}

@@ -1,9 +1,8 @@
 -- Place 1 of a side in the store. Assumes nothing.
 use mathlib.Core.Path.{_≡_, refl, ap, _∙_}
-use mathlib.Core.List.{List, []}
+use mathlib.Core.List.{List}
 use Prim.Native.Nat.{ℕ, zero, suc, _+_, _*_}
 use native.Mathlib.Nat.{add-zero}
-use native.Mathlib.Omega.{arith}
 use lib.ListN.{getD, take}
 use Rattle.book.specs.declared.Entry.{Entry}
 use Rattle.book.specs.Canonical.{heldIn}

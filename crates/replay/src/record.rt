@@ -1,6 +1,5 @@
 // What stands in a record's bytes.
 ghost use Prim.Native.Nat.{_≤_, _<_};
-ghost use lib.ListN.{length as ListN·length};
 
 // The most SecurityIDs that are handed to an opening. It refuses more than 16, so none beyond these can matter.
 pub const MOST_IDS: usize = 32;

@@ -1,24 +1,22 @@
 -- What the writer writes is taken by a board that awaits it. Assumes nothing.
-use mathlib.Core.Path.{_≡_, refl, sym, ap, _∙_}
+use mathlib.Core.Path.{_≡_, refl, ap, _∙_}
 use mathlib.Core.Bool.{Bool, true, false, cond}
-use mathlib.Core.List.{List, []}
-use Prim.Native.Nat.{ℕ, _≤_, _<_}
+use Prim.Native.Nat.{ℕ}
 use borrow.Author.Tests.{lt-ltb, le-ltb}
 use lib.Dec.{ltb}
 use lib.ListN.{length}
 use Rattle.book.specs.Rules.{Lists, mostPlaces}
-use Rattle.message.specs.Message.{Message, Head, snapshot}
+use Rattle.message.specs.Message.{Message}
 use Rattle.board.specs.Board.{Board, Inst, Out, out, anyWaiting, look, at, put, letGo, settled}
-use Rattle.board.specs.Snapshot.{shown, run, after, live, take, snap}
+use Rattle.board.specs.Snapshot.{run, live, take, snap}
 use Rattle.board.specs.Feed.{feed}
 use Rattle.board.specs.Calls.{inst}
 use Rattle.board.proofs.Giving.{at-put-same}
 use Rattle.board.proofs.Staying.{same-feed, same-look}
 use Rattle.fields.specs.Messages.{messageIn}
 use Rattle.writer.specs.Snapshot.{Letter, snapshotBytes}
-use Rattle.roundtrip.specs.ReadBack.{InRange, newOf}
+use Rattle.roundtrip.specs.ReadBack.{InRange}
 use Rattle.roundtrip.specs.TakenBack.{Awaits, Taken, TakenBack}
-use Rattle.roundtrip.proofs.Heads.{headSaid}
 use Rattle.roundtrip.proofs.RoundTrip.{read-back}
 
 -- letting the queue go leaves the instruments

@@ -2,11 +2,10 @@
 -- Waiting, has B ≤ H ≤ its own H and nothing queued for it above that number, the bytes are taken, and the book is the same book.
 use mathlib.Core.Path.{_≡_}
 use mathlib.Core.Bool.{true, false}
-use mathlib.Core.List.{List, []}
+use mathlib.Core.List.{[]}
 use Prim.Native.Nat.{ℕ, _≤_, _<_}
 use lib.ListN.{length}
 use Rattle.book.specs.Rules.{Lists}
-use Rattle.message.specs.Message.{Message}
 use Rattle.board.specs.Board.{Board, Out, look}
 use Rattle.board.specs.Snapshot.{after}
 use Rattle.board.specs.Feed.{feed}

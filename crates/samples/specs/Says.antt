@@ -1,10 +1,9 @@
 -- What the messages say.
-use mathlib.Core.List.{List, [], _∷_}
+use mathlib.Core.List.{[], _∷_}
 use Prim.Native.Nat.{ℕ}
 use lib.IntN.{pos}
 use Rattle.book.specs.declared.Entry.{Entry}
-use Rattle.book.specs.declared.Update.{Update}
-use Rattle.message.specs.Message.{Head, Message, numbered, snapshot}
+use Rattle.message.specs.Message.{Message, numbered, snapshot}
 
 -- The bid of message 1 (24.01 for 5), the bid that message 2 changes it to (24.02), and the offer of message 3 (24.05 for 7).
 abbrev pub bid-1 : Entry

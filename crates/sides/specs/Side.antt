@@ -7,6 +7,8 @@ use lib.ListN.{getD}
 use Rattle.price.specs.Held.{heldTop}
 use Rattle.heading.specs.Marks.{marked}
 use Rattle.board.specs.Ranges.{within, momentFine}
+use Rattle.cells.specs.Cells.{sideSize}
+use Rattle.store.specs.Layout.{sideSpare}
 
 -- f of each number below n.
 unfoldable pub each : (ℕ → Bool) → ℕ → Bool
@@ -34,7 +36,7 @@ unfoldable pub sideScan : ℕ → ℕ → ℕ → List ℕ → ℕ → Bool
 sideScan room most full xs at =
     leb (getD xs at 0) room
     && (each (λ (k : ℕ). entryScan most full xs (at + 1 + k * 5)) (getD xs at 0)
-    && (allZero xs (at + 1 + getD xs at 0 * 5) (100 - getD xs at 0 * 5) && allZero xs (at + 101) 27))
+    && (allZero xs (at + 1 + getD xs at 0 * 5) (100 - getD xs at 0 * 5) && allZero xs (at + sideSize) sideSpare))
 
 -- The places of instrument i: none where it is Waiting, else 20.
 unfoldable pub roomOf : ℕ → ℕ → ℕ

@@ -8,18 +8,18 @@ use Rattle.book.specs.declared.Entry.{Entry}
 use Rattle.book.specs.Canonical.{sideOf, bookOf}
 use Rattle.book.specs.Rules.{mostPlaces}
 use Rattle.book.proofs.Padding.{length-pad}
-use Rattle.cells.specs.Cells.{zeros, sideWords}
+use Rattle.cells.specs.Cells.{zeros, sideWords, sideSize}
 use Rattle.cells.proofs.Stores.{below-or}
 use Rattle.cells.proofs.Tables.{length-zeros, getD-zeros}
 use Rattle.cells.proofs.Windows.{length-side-words}
 use Rattle.board.specs.Board.{Inst, Queued, Board, noInst}
-use Rattle.store.specs.Layout.{layoutNumber}
+use Rattle.store.specs.Layout.{layoutNumber, sideSpare}
 use Rattle.store.specs.Meaning.{headWords, headingOf, recordWords, bookWords, slotWords, rows, written}
 use Rattle.sound.proofs.Rows.{behind, before, in-zeros, length-rows, rows-in, rows-out}
 
 -- ---- how many numbers a thing takes
 
-pub length-side : (l : List Entry) → length (sideWords (sideOf l)) ≡ 101
+pub length-side : (l : List Entry) → length (sideWords (sideOf l)) ≡ sideSize
 length-side l = length-side-words (sideOf l) (length-pad mostPlaces l)
 
 length-record : (x : Inst) → length (recordWords x) ≡ 8
@@ -27,9 +27,9 @@ length-record x = omega (arith, length-zeros 6)
 
 length-book : (x : Inst) → length (bookWords x) ≡ 256
 length-book x =
-    let e : length (bookWords x) ≡ length (sideWords (bookOf (x .book) .bids)) + (length (zeros 27) + (length (sideWords (bookOf (x .book) .offers)) + length (zeros 27))) =
+    let e : length (bookWords x) ≡ length (sideWords (bookOf (x .book) .bids)) + (length (zeros sideSpare) + (length (sideWords (bookOf (x .book) .offers)) + length (zeros sideSpare))) =
     simp length-append in
-    omega (arith, e, length-zeros 27, length-side (x .book .bids), length-side (x .book .offers))
+    omega (arith, e, length-zeros sideSpare, length-side (x .book .bids), length-side (x .book .offers))
 
 length-slot : (q : Queued) → length (slotWords q) ≡ 11
 length-slot q = refl
@@ -37,29 +37,29 @@ length-slot q = refl
 -- ---- in a book's numbers: its bids, their spare numbers, its offers, theirs
 
 module _ (x : Inst) where
-  pub bids-in : (j : ℕ) → j < 101 → getD (bookWords x) j 0 ≡ getD (sideWords (sideOf (x .book .bids))) j 0
-  bids-in j h = before (sideWords (sideOf (x .book .bids))) _ 101 j (length-side (x .book .bids)) h
+  pub bids-in : (j : ℕ) → j < sideSize → getD (bookWords x) j 0 ≡ getD (sideWords (sideOf (x .book .bids))) j 0
+  bids-in j h = before (sideWords (sideOf (x .book .bids))) _ sideSize j (length-side (x .book .bids)) h
 
-  past-bids : (j : ℕ) → getD (bookWords x) (101 + j) 0 ≡ getD (zeros 27 ++ (sideWords (bookOf (x .book) .offers) ++ zeros 27)) j 0
-  past-bids j = behind (sideWords (sideOf (x .book .bids))) _ 101 j (length-side (x .book .bids))
+  past-bids : (j : ℕ) → getD (bookWords x) (sideSize + j) 0 ≡ getD (zeros sideSpare ++ (sideWords (bookOf (x .book) .offers) ++ zeros sideSpare)) j 0
+  past-bids j = behind (sideWords (sideOf (x .book .bids))) _ sideSize j (length-side (x .book .bids))
 
-  past-middle : (j : ℕ) → getD (bookWords x) (128 + j) 0 ≡ getD (sideWords (bookOf (x .book) .offers) ++ zeros 27) j 0
+  past-middle : (j : ℕ) → getD (bookWords x) (128 + j) 0 ≡ getD (sideWords (bookOf (x .book) .offers) ++ zeros sideSpare) j 0
   past-middle j =
-      let e : 101 + (27 + j) ≡ 128 + j = omega arith in
-      rw e at (past-bids (27 + j) ∙ behind (zeros 27) (sideWords (bookOf (x .book) .offers) ++ zeros 27) 27 j (length-zeros 27))
+      let e : sideSize + (sideSpare + j) ≡ 128 + j = omega arith in
+      rw e at (past-bids (sideSpare + j) ∙ behind (zeros sideSpare) (sideWords (bookOf (x .book) .offers) ++ zeros sideSpare) sideSpare j (length-zeros sideSpare))
 
-  pub offers-in : (j : ℕ) → j < 101 → getD (bookWords x) (128 + j) 0 ≡ getD (sideWords (sideOf (x .book .offers))) j 0
-  offers-in j h = past-middle j ∙ before (sideWords (sideOf (x .book .offers))) (zeros 27) 101 j (length-side (x .book .offers)) h
+  pub offers-in : (j : ℕ) → j < sideSize → getD (bookWords x) (128 + j) 0 ≡ getD (sideWords (sideOf (x .book .offers))) j 0
+  offers-in j h = past-middle j ∙ before (sideWords (sideOf (x .book .offers))) (zeros sideSpare) sideSize j (length-side (x .book .offers)) h
 
-  pub spare-in : (s j : ℕ) → s < 2 → 101 ≤ j → j < 128 → getD (bookWords x) (s * 128 + j) 0 ≡ 0
+  pub spare-in : (s j : ℕ) → s < 2 → sideSize ≤ j → j < 128 → getD (bookWords x) (s * 128 + j) 0 ≡ 0
   spare-in s j h l m =
       below-or s 1
       (λ p.
-      let e : 101 + (j - 101) ≡ s * 128 + j = omega arith in
-      rw e at (past-bids (j - 101) ∙ in-zeros (sideWords (bookOf (x .book) .offers) ++ zeros 27) 27 (j - 101) (omega arith)))
+      let e : sideSize + (j - sideSize) ≡ s * 128 + j = omega arith in
+      rw e at (past-bids (j - sideSize) ∙ in-zeros (sideWords (bookOf (x .book) .offers) ++ zeros sideSpare) sideSpare (j - sideSize) (omega arith)))
       (λ p.
-      let e : 128 + (101 + (j - 101)) ≡ s * 128 + j = omega arith in
-      rw e at (past-middle (101 + (j - 101)) ∙ behind (sideWords (sideOf (x .book .offers))) (zeros 27) 101 (j - 101) (length-side (x .book .offers)) ∙ getD-zeros 27 (j - 101)))
+      let e : 128 + (sideSize + (j - sideSize)) ≡ s * 128 + j = omega arith in
+      rw e at (past-middle (sideSize + (j - sideSize)) ∙ behind (sideWords (sideOf (x .book .offers))) (zeros sideSpare) sideSize (j - sideSize) (length-side (x .book .offers)) ∙ getD-zeros sideSpare (j - sideSize)))
 
 -- ---- the whole
 

@@ -14,7 +14,7 @@ use Rattle.book.specs.Sides.{noEntry}
 use Rattle.book.specs.Canonical.{Kept, heldIn}
 use Rattle.book.proofs.Canon.{length-held}
 use Rattle.book.proofs.Every.{all-at, all-of}
-use Rattle.cells.specs.Cells.{tab, flat, words, entryAt, sideAt}
+use Rattle.cells.specs.Cells.{tab, flat, words, entryAt, sideAt, sideSize}
 use Rattle.cells.proofs.Stores.{below-or}
 use Rattle.cells.proofs.Tables.{length-tab, getD-tab, flat-at}
 use Rattle.cells.proofs.Windows.{entry-ext, no-entry-at, length-side-at, side-numbers}
@@ -25,13 +25,14 @@ use Rattle.sides.specs.Side.{each, allZero, entryScan, sideScan}
 use Rattle.scan.specs.Scan.{mostOf, fullOf}
 use Rattle.sides.proofs.Each.{each-at, each-of, zero-at, zero-of}
 use Rattle.sound.proofs.Ranges.{entry-test}
+use Rattle.store.specs.Layout.{sideSpare}
 
 -- a side at `at` with room for so many
 pub record SideFacts (depth room : ℕ) (xs : List ℕ) (at : ℕ) : Type 0 where
   pub held : getD xs at 0 ≤ room
   pub used : (k : ℕ) → k < getD xs at 0 → entryFine depth (entryAt xs (at + 1 + k * 5)) ≡ true
-  pub unused : (j : ℕ) → 1 + getD xs at 0 * 5 ≤ j → j < 101 → getD xs (at + j) 0 ≡ 0
-  pub spare : (j : ℕ) → 101 ≤ j → j < 128 → getD xs (at + j) 0 ≡ 0
+  pub unused : (j : ℕ) → 1 + getD xs at 0 * 5 ≤ j → j < sideSize → getD xs (at + j) 0 ≡ 0
+  pub spare : (j : ℕ) → sideSize ≤ j → j < 128 → getD xs (at + j) 0 ≡ 0
 
 module _ (depth room : ℕ) (xs : List ℕ) (at : ℕ) (small : room ≤ 20) where
   abbrev n : ℕ
@@ -48,7 +49,7 @@ module _ (depth room : ℕ) (xs : List ℕ) (at : ℕ) (small : room ≤ 20) whe
   pub side-facts : sideScan room (mostOf depth) (fullOf depth) xs at ≡ true → SideFacts depth room xs at
   unfolding sideScan
   side-facts e =
-      let p = four (leb n room) (each test n) (allZero xs (at + 1 + n * 5) (100 - n * 5)) (allZero xs (at + 101) 27) e in
+      let p = four (leb n room) (each test n) (allZero xs (at + 1 + n * 5) (100 - n * 5)) (allZero xs (at + sideSize) sideSpare) e in
       let h : n ≤ room = leb-true n room (p .0) in
       record {
         held = h;
@@ -57,8 +58,8 @@ module _ (depth room : ℕ) (xs : List ℕ) (at : ℕ) (small : room ≤ 20) whe
             let q : at + 1 + n * 5 + (j - (1 + n * 5)) ≡ at + j = omega arith in
             rw q at (zero-at xs (at + 1 + n * 5) (100 - n * 5) (j - (1 + n * 5)) (p .2) (omega arith));
         spare = λ j l m.
-            let q : at + 101 + (j - 101) ≡ at + j = omega arith in
-            rw q at (zero-at xs (at + 101) 27 (j - 101) (p .3) (omega arith));
+            let q : at + sideSize + (j - sideSize) ≡ at + j = omega arith in
+            rw q at (zero-at xs (at + sideSize) sideSpare (j - sideSize) (p .3) (omega arith));
       }
 
   pub facts-side : SideFacts depth room xs at → sideScan room (mostOf depth) (fullOf depth) xs at ≡ true
@@ -70,9 +71,9 @@ module _ (depth room : ℕ) (xs : List ℕ) (at : ℕ) (small : room ≤ 20) whe
       (zero-of xs (at + 1 + n * 5) (100 - n * 5) (λ k l.
       let q : at + (1 + n * 5 + k) ≡ at + 1 + n * 5 + k = omega arith in
       rw q at (s .unused (1 + n * 5 + k) (omega arith) (omega (arith, s .held)))))
-      (zero-of xs (at + 101) 27 (λ k l.
-      let q : at + (101 + k) ≡ at + 101 + k = omega arith in
-      rw q at (s .spare (101 + k) (omega arith) (omega arith))))))
+      (zero-of xs (at + sideSize) sideSpare (λ k l.
+      let q : at + (sideSize + k) ≡ at + sideSize + k = omega arith in
+      rw q at (s .spare (sideSize + k) (omega arith) (omega arith))))))
 
   -- ---- the facts and the side
 
@@ -126,7 +127,7 @@ module _ (depth room : ℕ) (xs : List ℕ) (at : ℕ) (small : room ≤ 20) whe
       ∙ ap (λ (e : Entry). getD (words e) (j % 5) 0) (k .unused (j / 5) (omega arith))
       ∙ none-words (j % 5) (omega arith)
 
-  pub facts-of : Kept (sideAt xs at) → SoundSide depth (heldIn (sideAt xs at)) → n ≤ room → ((j : ℕ) → 101 ≤ j → j < 128 → getD xs (at + j) 0 ≡ 0)
+  pub facts-of : Kept (sideAt xs at) → SoundSide depth (heldIn (sideAt xs at)) → n ≤ room → ((j : ℕ) → sideSize ≤ j → j < 128 → getD xs (at + j) 0 ≡ 0)
       → SideFacts depth room xs at
   facts-of k s h z =
       let m : length (heldIn (sideAt xs at)) ≡ n = length-held (sideAt xs at) k in

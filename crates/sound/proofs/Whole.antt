@@ -8,7 +8,7 @@ use lib.ListN.{length, getD}
 use Rattle.book.specs.declared.Side.{Side}
 use Rattle.book.specs.Canonical.{sideOf}
 use Rattle.book.proofs.Canon.{kept-is}
-use Rattle.cells.specs.Cells.{sideAt, sideWords, updateAt, updateWords}
+use Rattle.cells.specs.Cells.{sideAt, sideWords, updateAt, updateWords, sideSize}
 use Rattle.cells.proofs.Stores.{below-or}
 use Rattle.cells.proofs.Tables.{getD-tab, getD-zeros}
 use Rattle.cells.proofs.Windows.{side-numbers, update-numbers}
@@ -82,7 +82,7 @@ module _ (xs : List ℕ) (f : Formed (loaded xs)) where
 
   book-numbers : (i j : ℕ) → i < n → j < 256 → getD xs (160 + i * 256 + j) 0 ≡ getD (bookWords (instAt m xs i)) j 0
   book-numbers i j h l =
-      below-or j 101
+      below-or j sideSize
       (λ p. sym (side-numbers xs (bidsOf i) j p) ∙ ap (λ (s : Side). getD (sideWords s) j 0) (bids-is i h) ∙ sym (bids-in (instAt m xs i) j p))
       (λ p. below-or j 128
       (λ o.

@@ -6,13 +6,14 @@ use native.Mathlib.Omega.{arith}
 use lib.ListN.{getD}
 use Rattle.cells.proofs.Stores.{below-or}
 use Rattle.store.specs.Canon.{Unused, Spare}
+use Rattle.cells.specs.Cells.{sideSize}
 
 -- behind the heading; in a record and behind the records; in a side and behind the sides; in a slot and behind the queue
 pub record Zeros (f q : ℕ) (xs : List ℕ) : Type 0 where
   pub heading : (k : ℕ) → 8 ≤ k → k < 32 → getD xs k 0 ≡ 0
   pub in-record : (i j : ℕ) → i < f → 2 ≤ j → j < 8 → getD xs (32 + i * 8 + j) 0 ≡ 0
   pub records : (k : ℕ) → 32 + f * 8 ≤ k → k < 160 → getD xs k 0 ≡ 0
-  pub in-side : (i j : ℕ) → i < f * 2 → 101 ≤ j → j < 128 → getD xs (160 + i * 128 + j) 0 ≡ 0
+  pub in-side : (i j : ℕ) → i < f * 2 → sideSize ≤ j → j < 128 → getD xs (160 + i * 128 + j) 0 ≡ 0
   pub sides : (k : ℕ) → 160 + f * 256 ≤ k → k < 4256 → getD xs k 0 ≡ 0
   pub in-slot : (i : ℕ) → i < q → getD xs (4256 + i * 11 + 10) 0 ≡ 0
   pub queue : (k : ℕ) → 4256 + q * 11 ≤ k → k < 7168 → getD xs k 0 ≡ 0
@@ -42,7 +43,7 @@ module _ (f q : ℕ) (xs : List ℕ) (few : f ≤ 16) (room : q ≤ 256) where
       let i = (k - 160) / 128 in
       let j = (k - 160) % 128 in
       let e : 160 + i * 128 + j ≡ k = omega arith in
-      below-or j 101 (λ p. absurd (u .side i (omega arith) (omega arith) (omega arith))) (λ p. rw e at (z .in-side i j (omega arith) p (omega arith)))
+      below-or j sideSize (λ p. absurd (u .side i (omega arith) (omega arith) (omega arith))) (λ p. rw e at (z .in-side i j (omega arith) p (omega arith)))
 
   of-slot : Zeros f q xs → (k : ℕ) → Unused f q k → 4256 ≤ k → k < 4256 + q * 11 → getD xs k 0 ≡ 0
   of-slot z k u l m =

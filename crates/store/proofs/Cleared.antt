@@ -1,30 +1,25 @@
 -- What a gap leaves is document 01's: all Waiting with empty books, reasons kept, the queue emptied.
-use mathlib.Core.Path.{_≡_, refl, sym, ap, _∙_}
+use mathlib.Core.Path.{_≡_, refl, sym, _∙_}
 use mathlib.Core.Bool.{true}
-use mathlib.Core.List.{List, [], _∷_, map}
-use mathlib.Core.Logic.{_⊎_, inl, inr, ⊎-elim}
-use Prim.Native.Nat.{ℕ, zero, suc, _+_, _*_, _-_, _≤_, _<_, _^_}
+use mathlib.Core.List.{List, map}
+use mathlib.Core.Logic.{_⊎_, inl, ⊎-elim}
+use Prim.Native.Nat.{ℕ, _-_, _≤_, _<_}
 use native.Mathlib.Omega.{arith}
 use lib.Dec.{ltb}
 use borrow.Author.Tests.{lt-ltb}
-use lib.ListN.{length, getD, take}
-use lib.Seq.{sets, length-sets}
-use Rattle.book.specs.declared.Book.{Book}
-use Rattle.book.specs.Rules.{Lists, empty}
+use lib.ListN.{length, getD}
+use lib.Seq.{sets}
 use Rattle.book.specs.Sides.{noBook}
-use Rattle.book.specs.Canonical.{KeptBook, listsIn}
 use Rattle.book.proofs.Canon.{kept-no-book}
 use Rattle.cells.specs.Cells.{tab, zeros}
 use Rattle.cells.proofs.Tables.{tab-ext, map-tab, in-zeros}
 use Rattle.cells.proofs.Windows.{side-zeros}
-use Rattle.heading.specs.Headings.{gapAt}
-use Rattle.heading.specs.Marks.{marked, allMarks}
+use Rattle.heading.specs.Marks.{allMarks}
 use Rattle.heading.proofs.Bits.{marked-all, all-lt}
-use Rattle.board.specs.Board.{Inst, Board}
 use Rattle.board.specs.Count.{clear, cleared}
 use Rattle.store.specs.Layout.{idOf, reasonOf, bidsOf, offersOf}
-use Rattle.store.specs.Meaning.{bookAt, instAt, boardOf, State, st, boardIn}
-use Rattle.store.specs.Canon.{Unused, Spare, Formed, Canon}
+use Rattle.store.specs.Meaning.{bookAt, instAt, boardOf, State, boardIn}
+use Rattle.store.specs.Canon.{Formed, Canon}
 use Rattle.store.specs.Steps.{gapS}
 use Rattle.store.proofs.Regions.{Agree, agree-zeros, number-apart}
 use Rattle.store.proofs.Decode.{inst-is}

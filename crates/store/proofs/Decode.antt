@@ -1,29 +1,28 @@
 -- The instruments and the queue that are read from a store: each depends on its own numbers alone.
-use mathlib.Core.Path.{_≡_, refl, sym, ap, _∙_}
+use mathlib.Core.Path.{_≡_}
 use mathlib.Core.Bool.{Bool}
-use mathlib.Core.List.{List, [], _∷_, _++_}
-use mathlib.Core.Logic.{_⊎_, inl, inr, ⊎-elim}
-use Prim.Native.Nat.{ℕ, _+_, _*_, _≤_, _<_}
-use native.Mathlib.Nat.{add-zero, zero-add}
+use mathlib.Core.List.{List}
+use mathlib.Core.Logic.{inl, inr}
+use Prim.Native.Nat.{ℕ, _+_, _≤_, _<_}
+use native.Mathlib.Nat.{add-zero}
 use native.Mathlib.Omega.{arith}
-use lib.ListN.{length, getD, set}
+use lib.ListN.{length, getD}
 use lib.Seq.{sets}
 use Rattle.book.specs.declared.Side.{Side}
 use Rattle.book.specs.declared.Book.{Book}
 use Rattle.book.specs.declared.Update.{Update}
 use Rattle.book.specs.Sides.{noBook}
 use Rattle.book.specs.Canonical.{listsIn}
-use Rattle.cells.specs.Cells.{tab, zeros, sideAt, sideWords, updateAt, queuedWords}
+use Rattle.cells.specs.Cells.{tab, zeros, sideAt, sideWords, queuedWords}
 use Rattle.cells.proofs.Stores.{below-or, in-sets}
 use Rattle.cells.proofs.Tables.{length-tab, getD-tab, tab-ext, set-tab}
 use Rattle.cells.proofs.Windows.{Same, same-first, same-part, side-ext, side-back, side-zeros, side-before, side-behind, length-side-words, update-ext, update-back}
-use Rattle.heading.specs.declared.Heading.{Heading}
 use Rattle.heading.specs.Headings.{marksNow}
 use Rattle.heading.specs.Marks.{marked}
-use Rattle.board.specs.Board.{Inst, Queued, Board, noInst, at, put}
+use Rattle.board.specs.Board.{Inst, noInst, at, put}
 use Rattle.store.specs.Layout.{idOf, reasonOf, bidsOf, offersOf, slotOf}
 use Rattle.store.specs.Meaning.{bookAt, instAt, queuedAt, boardOf, State, st, boardIn}
-use Rattle.store.proofs.Regions.{Agree, Apart, same-apart, number-apart}
+use Rattle.store.proofs.Regions.{Agree, Apart, same-apart}
 
 -- ---- one instrument
 

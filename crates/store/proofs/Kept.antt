@@ -1,11 +1,10 @@
 -- A change of the store leaves it formed, where the region that changes is used or zero.
-use mathlib.Core.Path.{_≡_, refl, sym, ap, _∙_}
-use mathlib.Core.List.{List, [], _∷_}
-use mathlib.Core.Logic.{_⊎_, inl, inr, ⊎-elim}
-use Prim.Native.Nat.{ℕ, _+_, _*_, _≤_, _<_, _^_}
+use mathlib.Core.Path.{_≡_, _∙_}
+use mathlib.Core.List.{List}
+use mathlib.Core.Logic.{_⊎_, inl, inr}
+use Prim.Native.Nat.{ℕ, _+_, _≤_, _<_, _^_}
 use native.Mathlib.Omega.{arith}
-use lib.ListN.{length, getD}
-use Rattle.book.specs.declared.Book.{Book}
+use lib.ListN.{getD}
 use Rattle.book.specs.Canonical.{KeptBook}
 use Rattle.cells.proofs.Stores.{below-or}
 use Rattle.heading.specs.Headings.{marksNow}

@@ -1,15 +1,14 @@
 -- Two stores that are the same outside a region, and what is read of them outside it.
-use mathlib.Core.Path.{_≡_, refl, sym, _∙_}
-use mathlib.Core.List.{List, [], _∷_}
+use mathlib.Core.Path.{_≡_, refl, _∙_}
+use mathlib.Core.List.{List}
 use mathlib.Core.Logic.{_⊎_, inl, inr, ⊎-elim}
 use Prim.Native.Nat.{ℕ, _+_, _≤_, _<_}
-use native.Mathlib.Nat.{add-zero}
 use native.Mathlib.Omega.{arith}
 use lib.ListN.{length, getD}
 use lib.Seq.{sets, length-sets}
 use Rattle.cells.specs.Cells.{zeros}
-use Rattle.cells.proofs.Stores.{before-sets, behind-sets, below-or}
-use Rattle.cells.proofs.Tables.{length-zeros, in-zeros}
+use Rattle.cells.proofs.Stores.{before-sets, behind-sets}
+use Rattle.cells.proofs.Tables.{length-zeros}
 use Rattle.cells.proofs.Windows.{Same}
 
 -- ys is xs but for the numbers from lo on, below hi

@@ -1,17 +1,14 @@
 -- A heading that is saved is read again, and its numbers belong to nothing else.
-use mathlib.Core.Path.{_≡_, refl, sym, ap, _∙_}
-use mathlib.Core.List.{List, [], _∷_}
-use mathlib.Core.Logic.{_⊎_, inl, inr, ⊎-elim}
+use mathlib.Core.Path.{_≡_, refl, ap, _∙_}
+use mathlib.Core.Logic.{inl, inr}
 use Prim.Native.Nat.{ℕ, _+_, _≤_, _<_}
 use native.Mathlib.Omega.{arith}
 use lib.ListN.{length, getD}
 use lib.Seq.{sets}
-use Rattle.cells.specs.Cells.{tab}
 use Rattle.cells.proofs.Stores.{in-sets}
 use Rattle.heading.specs.declared.Heading.{Heading}
-use Rattle.board.specs.Board.{Board}
-use Rattle.store.specs.Meaning.{headingAt, headWords, bookAt, boardOf, boardAt, State, st, boardIn, loaded, saved}
-use Rattle.store.specs.Canon.{Unused, Formed, Canon}
+use Rattle.store.specs.Meaning.{headingAt, headWords, boardOf, boardAt, State, st, boardIn, loaded, saved}
+use Rattle.store.specs.Canon.{Formed, Canon}
 use Rattle.store.proofs.Regions.{Agree, agree-sets}
 use Rattle.store.proofs.Decode.{insts-apart, queue-behind, book-apart}
 use Rattle.store.proofs.Kept.{spare-agree}

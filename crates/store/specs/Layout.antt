@@ -46,6 +46,9 @@ abbrev pub reasonOf : ℕ → ℕ
 reasonOf i = 33 + i * 8
 
 -- 32 sides of 128 from 160 on, an instrument's bids and then its offers: 101 numbers and 27 spare ones.
+abbrev pub sideSpare : ℕ
+sideSpare = 27
+
 abbrev pub atSides : ℕ
 atSides = 160
 

@@ -1,17 +1,16 @@
 -- What a store means: the board that its numbers are, and the numbers that a board is.
-use mathlib.Core.Bool.{Bool, cond}
+use mathlib.Core.Bool.{cond}
 use mathlib.Core.List.{List, [], _∷_, _++_}
-use Prim.Native.Nat.{ℕ, zero, suc, _+_, _*_, _-_, _^_}
+use Prim.Native.Nat.{ℕ, zero, suc, _+_, _^_}
 use lib.ListN.{length, getD}
 use lib.Seq.{sets}
 use Rattle.book.specs.declared.Book.{Book}
-use Rattle.book.specs.declared.Update.{Update}
 use Rattle.book.specs.Canonical.{listsIn, bookOf}
 use Rattle.cells.specs.Cells.{tab, zeros, sideAt, sideWords, updateAt, queuedWords}
 use Rattle.heading.specs.declared.Heading.{Heading}
 use Rattle.heading.specs.Marks.{marked}
 use Rattle.board.specs.Board.{Inst, Queued, Board}
-use Rattle.store.specs.Layout.{layoutNumber, atDepth, atFollowed, atNumber, atBase, atHeard, atMarks, atQueued, idOf, reasonOf, bidsOf, offersOf, slotOf}
+use Rattle.store.specs.Layout.{layoutNumber, atDepth, atFollowed, atNumber, atBase, atHeard, atMarks, atQueued, idOf, reasonOf, bidsOf, offersOf, slotOf, sideSpare}
 
 -- ---- numbers as a board
 
@@ -98,7 +97,7 @@ abbrev pub recordWords : Inst → List ℕ
 recordWords x = x .id ∷ x .reason ∷ zeros 6
 
 abbrev pub bookWords : Inst → List ℕ
-bookWords x = sideWords (bookOf (x .book) .bids) ++ (zeros 27 ++ (sideWords (bookOf (x .book) .offers) ++ zeros 27))
+bookWords x = sideWords (bookOf (x .book) .bids) ++ (zeros sideSpare ++ (sideWords (bookOf (x .book) .offers) ++ zeros sideSpare))
 
 abbrev pub slotWords : Queued → List ℕ
 slotWords q = queuedWords (q .number) (q .update) ++ (0 ∷ [])

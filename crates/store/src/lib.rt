@@ -64,7 +64,7 @@ pub const SIDE: usize = 128;
 
 pub const PLACES_SIZE: usize = 100;
 
-pub const SIDE_SPARE: usize = 101;
+pub const SIDE_SPARE: usize = cells::SIDE;
 
 pub const SIDE_SPARE_SIZE: usize = 27;
 

@@ -16,6 +16,8 @@ use Rattle.sweep.specs.declared.Columns.{Columns}
 use Rattle.sweep.specs.declared.Way.{Way}
 use Rattle.sweep.specs.declared.Swept.{Swept}
 use Rattle.sweep.specs.Quick.{Spans, fits, Ids, Alone, Stands, Joins, Limits, fewOf, Sides, Settles, settledTo}
+use Rattle.cells.specs.Cells.{sideSize}
+use Rattle.store.specs.Layout.{sideSpare}
 
 -- what two numbers give is at least each of them
 pub or-l : (a b : ℕ) → a ≤ bitOr a b
@@ -288,7 +290,7 @@ limits-mixed most full h l = (omega arith, h, l, l, λ b m lb lm a. go b m lm (a
 pub side-fine : (room most full : ℕ) (xs : List ℕ) (at : ℕ) → getD xs at 0 ≤ room
     → ((k : ℕ) → k < getD xs at 0 - fewOf (getD xs at 0) → entryScan most full xs (at + 1 + k * 5) ≡ true)
     → each (λ (k : ℕ). entryScan most full xs (at + 1 + k * 5)) (fewOf (getD xs at 0)) ≡ true
-    → allZero xs (at + 1 + getD xs at 0 * 5) (100 - getD xs at 0 * 5) && allZero xs (at + 101) 27 ≡ true → sideScan room most full xs at ≡ true
+    → allZero xs (at + 1 + getD xs at 0 * 5) (100 - getD xs at 0 * 5) && allZero xs (at + sideSize) sideSpare ≡ true → sideScan room most full xs at ≡ true
 unfolding sideScan
 side-fine room most full xs at h A E z = rw (le-leb n room h, go (ltb n 4) refl, z)
   where

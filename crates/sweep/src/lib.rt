@@ -5,9 +5,10 @@ ghost use mathlib.Core.Bool.{true, false, cond, _&&_};
 ghost use Prim.Native.Nat.{ℕ, _+_, _*_, _-_, _≤_, _<_};
 ghost use lib.Dec.{ltb, eqb};
 ghost use lib.ListN.{length};
-ghost use Rattle.store.specs.Layout.{storeSize};
+ghost use Rattle.store.specs.Layout.{storeSize, sideSpare};
 ghost use Rattle.sides.specs.Side.{allZero};
 ghost use Rattle.sweep.specs.Quick.{Spans, fits, Alone, Joins, Limits, fewOf, Sides, Settles, settledTo};
+ghost use Rattle.cells.specs.Cells.{sideSize};
 
 // The numbers of four places.
 const FOUR: usize = 20;
@@ -198,7 +199,7 @@ fn few(n: usize) -> usize
 // What is behind the n places of a side, joined by `|`.
 fn behind(store: &[u64], at: usize, n: usize) -> u64
     requires { ⌜ (at + 128 ≤ length (now store)) × (n ≤ 20) ⌝ }
-    ensures { λ r. ⌜ eqb r 0 ≡ allZero (now (store .entry)) (at + 1 + n * 5) (100 - n * 5) && allZero (now (store .entry)) (at + 101) 27 ⌝ }
+    ensures { λ r. ⌜ eqb r 0 ≡ allZero (now (store .entry)) (at + 1 + n * 5) (100 - n * 5) && allZero (now (store .entry)) (at + sideSize) sideSpare ⌝ }
 {
     let unused = sides::joined(
         store,

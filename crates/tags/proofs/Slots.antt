@@ -12,7 +12,6 @@ use lib.ListN.{length, getD, take, drop}
 use lib.Seq.{take-nil}
 use Rattle.digits.proofs.Width.{both}
 use Rattle.frame.specs.Fields.{ahead}
-use Rattle.frame.proofs.Ahead.{ahead-le}
 use Rattle.tags.specs.Tags.{namedTags, has}
 use Rattle.tags.specs.Slots.{slotOf, below, between}
 

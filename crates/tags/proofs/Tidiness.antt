@@ -1,17 +1,17 @@
 -- The rules of a place, checked field by field as they come. Assumes nothing.
-use mathlib.Core.Path.{_≡_, refl, sym, ap, _∙_}
+use mathlib.Core.Path.{_≡_, refl, sym}
 use mathlib.Core.List.{List, [], _∷_, _++_, append-assoc, append-nil}
 use mathlib.Core.Bool.{Bool, true, false, cond, not, _&&_, _||_, and-false, or-true, false≢true, true≢false}
 use mathlib.Core.Option.{Option, none, some}
 use Prim.Native.Nat.{ℕ, _+_, _≤_, _<_}
 use native.Mathlib.Omega.{arith}
-use borrow.Author.Tests.{eqb-true, eqb-false, eq-eqb, ne-eqb, ltb-true, ltb-false, lt-ltb, le-ltb, le-leb, lt-leb}
+use borrow.Author.Tests.{eqb-true, eqb-false, eq-eqb, ne-eqb, ltb-true, ltb-false, le-leb, lt-leb}
 use lib.Dec.{leb, ltb, eqb}
-use lib.ListN.{length, getD}
+use lib.ListN.{getD}
 use Rattle.digits.proofs.Width.{both}
 use Rattle.frame.specs.Fields.{Field}
 use Rattle.tags.specs.Tags.{has, stands, tidy, upTo, onward}
-use Rattle.tags.specs.Slots.{slotOf, below, between, strays, Holds, Split, splitAt}
+use Rattle.tags.specs.Slots.{slotOf, below, between, strays, Holds, Split}
 use Rattle.tags.specs.declared.Marks.{Marks}
 use Rattle.tags.proofs.Slots.{has-below, has-between}
 use Rattle.tags.proofs.Marking.{stands-last}

@@ -15,12 +15,11 @@ use Rattle.book.specs.Canonical.{KeptBook, listsIn, bookOf}
 use Rattle.book.proofs.Tests.{by-test}
 use Rattle.book.proofs.Canon.{kept-book-of}
 use Rattle.cells.specs.Cells.{tab}
-use Rattle.heading.specs.declared.Heading.{Heading}
 use Rattle.heading.specs.Marks.{marked, withMark}
 use Rattle.heading.proofs.Bits.{not-zero}
-use Rattle.board.specs.Board.{Inst, Queued, Board, Out, out, look, at, put, broken, settled}
+use Rattle.board.specs.Board.{Inst, out, look, at, put, broken, settled}
 use Rattle.board.specs.Snapshot.{live, replayed, take, shown, tooWide, snapBy, snapAt, snap}
-use Rattle.store.specs.Meaning.{instAt, queuedAt, boardOf, State, st, boardIn}
+use Rattle.store.specs.Meaning.{instAt, queuedAt, boardOf, State, boardIn}
 use Rattle.store.specs.Canon.{Formed, Canon}
 use Rattle.store.specs.Answers.{FedS, fed, meant}
 use Rattle.store.proofs.Decode.{insts-length, at-board}

@@ -1,28 +1,26 @@
 -- An instrument put Live in the store is put Live on the board, and leaves the store formed.
 use mathlib.Core.Path.{_≡_, refl, sym, ap, _∙_}
-use mathlib.Core.Bool.{Bool, true, false, not, _&&_}
+use mathlib.Core.Bool.{false}
 use mathlib.Core.List.{List, [], _∷_}
-use mathlib.Core.Logic.{_⊎_, inl, inr}
-use Prim.Native.Nat.{ℕ, _+_, _*_, _≤_, _<_, _^_, _-_}
+use mathlib.Core.Logic.{inl, inr}
+use Prim.Native.Nat.{ℕ, _+_, _*_, _<_, _^_, _-_}
 use native.Mathlib.Nat.{lt-of-le-of-lt}
 use native.Mathlib.Omega.{arith}
-use lib.Bits.{bitAnd, and-le-l}
+use lib.Bits.{and-le-l}
 use lib.Dec.{eqb}
-use lib.ListN.{length, getD}
 use lib.Seq.{sets, getD-set-same}
 use borrow.Author.Tests.{eq-eqb, ne-eqb}
-use Rattle.book.specs.declared.Side.{Side}
 use Rattle.book.specs.declared.Book.{Book}
-use Rattle.book.specs.Canonical.{Kept, KeptBook, listsIn}
+use Rattle.book.specs.Canonical.{KeptBook, listsIn}
 use Rattle.cells.specs.Cells.{sideAt, sideWords, sideSize}
 use Rattle.cells.proofs.Windows.{length-side-words}
 use Rattle.heading.specs.Marks.{marked, withoutMark}
 use Rattle.heading.proofs.Bits.{marked-withoutMark}
-use Rattle.board.specs.Board.{Inst, Board, at, put}
+use Rattle.board.specs.Board.{at, put}
 use Rattle.board.specs.Snapshot.{live}
 use Rattle.store.specs.Layout.{idOf, reasonOf, bidsOf, offersOf}
 use Rattle.store.specs.Meaning.{bookAt, instAt, State, st, boardIn}
-use Rattle.store.specs.Canon.{Unused, Formed}
+use Rattle.store.specs.Canon.{Formed}
 use Rattle.store.proofs.Regions.{Agree, agree-sets, agree-wider, agree-then, number-apart}
 use Rattle.store.proofs.Decode.{inst-is, inst-marks, inst-apart, inst-other, book-apart, own-bids, own-offers, queue-behind, at-board, put-board}
 use Rattle.store.proofs.Kept.{formed-book, formed-reason}

@@ -1,13 +1,12 @@
 -- The replay on a book of 20 places a side says the same as document 01's on the two lists, and keeps the book kept.
-use mathlib.Core.Path.{_≡_, refl, sym, ap, _∙_}
-use mathlib.Core.Bool.{Bool, true, false, cond, _&&_}
+use mathlib.Core.Path.{_≡_, refl, ap, _∙_}
+use mathlib.Core.Bool.{Bool, true, false, cond}
 use mathlib.Core.List.{List, [], _∷_}
 use Prim.Native.Nat.{ℕ}
 use lib.Dec.{eqb}
 use Rattle.book.specs.declared.Book.{Book}
 use Rattle.book.specs.declared.Turn.{Turn}
-use Rattle.book.specs.declared.Update.{Update}
-use Rattle.book.specs.Rules.{Outcome, leaves, breach, Lists, applied}
+use Rattle.book.specs.Rules.{Outcome, leaves, breach, Lists}
 use Rattle.book.specs.Sides.{bookStep}
 use Rattle.book.specs.Canonical.{KeptBook, listsIn}
 use Rattle.book.proofs.Tests.{by-test}

@@ -11,11 +11,10 @@ use Rattle.text.proofs.Written.{length-decimal}
 use Rattle.text.proofs.Stores.{and-then, as-text}
 use Rattle.frame.specs.Fields.{Field, field}
 use Rattle.frame.specs.Bytes.{fieldBytes, bytesOf}
-use Rattle.frame.specs.Frames.{begin, total, headed, framed}
+use Rattle.frame.specs.Frames.{total, headed, framed}
 use Rattle.frame.proofs.Inverse.{length-field}
 use Rattle.frame.proofs.Well.{bytes-append, tags, eight-bytes, length-ten}
 use Rattle.writer.specs.Writing.{writtenOf, outAfter, openingFields}
-use Rattle.writer.specs.declared.Written.{Written}
 
 -- the bytes of 8 and 9
 opening-long : (n : ℕ) → length (bytesOf (openingFields n)) ≡ 13 + widthOf n

@@ -1,9 +1,8 @@
 -- `on_side` meets its contract: a breach leaves the side, with its reason, and else it is worked.
 use mathlib.Core.Path.{_∙_, sym, ap}
 use Prim.Native.Nat.{ℕ}
-use native.Mathlib.Omega.{arith}
 use borrow.Author.Needs.{needs}
-use Rattle.book.specs.Sides.{refused, sideStep}
+use Rattle.book.specs.Sides.{refused}
 use Rattle.book.proofs.Breaches.{step-reason, done-by, step-refused}
 use Rattle.book.proofs.on_side.Statement.{statement}
 use Rattle.book.proofs.on_side.Tie as tie

@@ -5,7 +5,6 @@ use Rattle.deliver.specs.Gives.{giveAllS}
 use Rattle.queue.proofs.Joining.{join-formed}
 use Rattle.queue.specs.Joins.{overS, joinS}
 use Rattle.store.specs.Answers.{fed}
-use Rattle.store.specs.Canon.{Formed}
 use Rattle.store.specs.Meaning.{State, st}
 use Rattle.heading.specs.declared.Heading.{Heading}
 use Rattle.cells.specs.Runs.{updatesIn}

@@ -11,7 +11,7 @@ use lib.ListN.{length, drop}
 use native.Mathlib.Omega.{arith}
 use Prim.Native.Nat.{ℕ, _+_, _*_, _-_, _≤_}
 use mathlib.Core.List.{_∷_}
-use mathlib.Core.Path.{_≡_, _∙_, refl, sym, ap, subst}
+use mathlib.Core.Path.{_≡_, _∙_, refl, ap}
 use borrow.Author.Needs.{needs}
 use Rattle.deliver.proofs.give_all.Statement.{statement}
 use Rattle.deliver.proofs.give_all.Tie as tie

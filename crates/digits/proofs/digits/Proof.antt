@@ -1,17 +1,14 @@
 -- `digits::digits` meets its contract: the whole answer is what is left gives, after the digits that wrote v. Assumes nothing.
 use Prim.Native.Nat.{_≤_, _<_, _-_, _^_}
-use mathlib.Core.Path.{_≡_, refl, sym, _∙_}
+use mathlib.Core.Path.{_≡_, sym, _∙_}
 use borrow.Author.Needs.{needs}
 use native.Mathlib.Omega.{arith}
-use lib.ListN.{length, drop}
+use lib.ListN.{drop}
 use Rattle.digits.specs.Digits.{digitsOf}
 use Rattle.digits.proofs.Width.{push, small}
 use Rattle.digits.proofs.Steps.{rest, none, long, wide, fit, low, high, more, done}
 use Rattle.digits.proofs.digits.Statement.{statement}
 use Rattle.digits.proofs.digits.Tie as tie
-use Rattle.digits.proofs.digits.Reads as reads
-use Rattle.digits.proofs.digits.Lts as lts
-use Rattle.digits.proofs.wide.Reads as wide-reads
 
 abbrev Inv-loop : tie.InvT-loop
 Inv-loop text width n v₀ i₀ v i = (i ≤ 18) × (i ≤ n) × (v < 10 ^ i) × (digitsOf width text ≡ rest v (drop i text))

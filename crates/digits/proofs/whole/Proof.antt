@@ -1,5 +1,5 @@
 -- `digits::whole` meets its contract. Assumes nothing.
-use mathlib.Core.Path.{_≡_, sym, _∙_}
+use mathlib.Core.Path.{sym, _∙_}
 use borrow.Author.Needs.{needs}
 use Rattle.digits.proofs.Steps.{short, zeroed, unzeroed}
 use Rattle.digits.proofs.whole.Statement.{statement}

@@ -1,5 +1,5 @@
 -- `entries::by` meets its contract: by the depth kind. Assumes nothing.
-use mathlib.Core.Path.{_≡_, sym, _∙_}
+use mathlib.Core.Path.{sym, _∙_}
 use borrow.Author.Tests.{eq-eqb, ne-eqb}
 use borrow.Author.Needs.{needs}
 use Rattle.tags.specs.Slots.{slotOf, marked}

@@ -1,5 +1,5 @@
 -- `entries::empty_book` meets its contract. Assumes nothing.
-use mathlib.Core.Path.{_≡_, sym, _∙_}
+use mathlib.Core.Path.{sym, _∙_}
 use borrow.Author.Needs.{needs}
 use Rattle.entries.specs.Entries.{emptyBook, said}
 use Rattle.entries.proofs.empty_book.Statement.{statement}

@@ -1,6 +1,5 @@
 -- `entries::instrument` meets its contract: each return rewrites with what was read so far. Assumes nothing.
-use mathlib.Core.Path.{_≡_, sym, _∙_}
-use mathlib.Core.Bool.{and-false}
+use mathlib.Core.Path.{sym, _∙_}
 use borrow.Author.Tests.{not-true, not-false}
 use borrow.Author.Needs.{needs}
 use Rattle.tags.specs.Slots.{slotOf, marked}

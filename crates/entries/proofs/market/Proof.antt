@@ -1,5 +1,5 @@
 -- `entries::market` meets its contract: absent, or compared. Assumes nothing.
-use mathlib.Core.Path.{_≡_, sym, _∙_}
+use mathlib.Core.Path.{sym, _∙_}
 use borrow.Author.Needs.{needs}
 use Rattle.entries.proofs.Texts.{no-market, some-market}
 use Rattle.entries.proofs.market.Statement.{statement}

@@ -1,5 +1,5 @@
 -- `entries::moment` meets its contract: a date, then a time of day. Assumes nothing.
-use mathlib.Core.Path.{_≡_, sym, _∙_}
+use mathlib.Core.Path.{sym, _∙_}
 use native.Mathlib.Omega.{arith}
 use borrow.Author.Needs.{needs}
 use Rattle.tags.specs.Slots.{slotOf, marked}

@@ -1,5 +1,5 @@
 -- `entries::sort` meets its contract: by the length of the text, then by its one byte. Assumes nothing.
-use mathlib.Core.Path.{_≡_, sym, _∙_}
+use mathlib.Core.Path.{sym, _∙_}
 use borrow.Author.Tests.{ne-eqb}
 use borrow.Author.Needs.{needs}
 use Rattle.entries.proofs.Texts.{no-sort, long-sort, one-sort}

@@ -1,6 +1,5 @@
 -- `frame::tag_at` meets its contract: what is left of the bytes before '=' is read as digits are. Assumes nothing.
 use Prim.Native.Nat.{_-_}
-use mathlib.Core.Path.{_≡_}
 use native.Mathlib.Omega.{arith}
 use borrow.Author.Needs.{needs}
 use Rattle.digits.proofs.Width.{small}

@@ -1,7 +1,6 @@
 -- 37 where the depth is 0, else 346. Assumes nothing.
 use borrow.Author.Needs.{needs}
 use borrow.Author.Tests.{eq-eqb, ne-eqb}
-use native.Mathlib.Omega.{arith}
 use Rattle.pen.proofs.by_field.Statement.{statement}
 use Rattle.pen.proofs.by_field.Tie as tie
 

@@ -3,18 +3,13 @@ use mathlib.Core.Path.{_≡_, sym, _∙_}
 use borrow.Author.Needs.{needs}
 use native.Mathlib.Omega.{arith}
 use Prim.Native.Nat.{_+_}
-use lib.ListN.{length, take, drop, length-drop}
+use lib.ListN.{drop, length-drop}
 use lib.Seq.{length-take-le}
 use Rattle.digits.specs.Digits.{digitsOf}
 use Rattle.digits.proofs.Width.{below, digits-width}
 use Rattle.price.proofs.Parts.{amount-no, amount-whole, amount-half, amount-both, fraction-lt, tail}
 use Rattle.price.proofs.amount.Statement.{statement}
 use Rattle.price.proofs.amount.Tie as tie
-use Rattle.price.proofs.amount.Reads as reads
-use Rattle.price.proofs.amount.Lts as lts
-use Rattle.digits.proofs.digits.Reads as digits-reads
-use Rattle.price.proofs.find.Reads as find-reads
-use Rattle.price.proofs.scale.Reads as scale-reads
 
 find-requires : tie.Need-find-requires
 find-requires c κs = search needs

@@ -1,6 +1,6 @@
 -- `price::below` meets its contract. Assumes nothing.
 use mir.Syntax.{w64}
-use mir.Facts.{toZ-pos, toZ-ofZ}
+use mir.Facts.{toZ-pos}
 use lib.IntN.{+ℤ-idl}
 use Rattle.price.proofs.Signed.{minus-fits, minus-is}
 use borrow.Author.Needs.{needs}

@@ -9,8 +9,6 @@ use Rattle.price.specs.Price.{ahead}
 use Rattle.price.proofs.Parts.{found, passed, unfound}
 use Rattle.price.proofs.find.Statement.{statement}
 use Rattle.price.proofs.find.Tie as tie
-use Rattle.price.proofs.find.Reads as reads
-use Rattle.price.proofs.find.Lts as lts
 
 abbrev Inv-loop : tie.InvT-loop
 Inv-loop text x n i₀ i = (i ≤ n) × (i + ahead x (drop i text) ≡ ahead x text)

@@ -1,10 +1,7 @@
 -- `price::magnitude` meets its contract. Assumes nothing.
-use mathlib.Core.Path.{_≡_, refl, sym, ap, _∙_}
 use native.Mathlib.Omega.{arith}
-use lib.IntN.{ℤ, natAbs}
 use mir.Facts.{toZ-ofZ}
 use Rattle.price.proofs.Signed.{neg-fits, neg-back, pos-is}
-use borrow.Author.Needs.{needs}
 use Rattle.price.proofs.magnitude.Statement.{statement}
 use Rattle.price.proofs.magnitude.Tie as tie
 

@@ -4,8 +4,6 @@ use borrow.Author.Needs.{needs}
 use Rattle.price.proofs.Holding.{even, odd, odd-fits}
 use Rattle.price.proofs.of_held.Statement.{statement}
 use Rattle.price.proofs.of_held.Tie as tie
-use Rattle.price.proofs.of_held.Reads as reads
-use Rattle.price.proofs.of_held.Lts as lts
 
 cast-m : tie.Need-cast-m
 cast-m c = search needs

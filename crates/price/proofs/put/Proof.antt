@@ -4,15 +4,10 @@ use Rattle.price.proofs.Back.{text-minus, text-plus}
 use Rattle.text.proofs.Stores.{and-then}
 use mir.Facts.{toZ-ofZ}
 use native.Mathlib.Omega.{arith}
-use mathlib.Core.Path.{_≡_, refl, sym, ap, _∙_}
+use mathlib.Core.Path.{ap, _∙_}
 use borrow.Author.Needs.{needs}
 use Rattle.price.proofs.put.Statement.{statement}
 use Rattle.price.proofs.put.Tie as tie
-use Rattle.price.proofs.put.Reads as reads
-use Rattle.price.proofs.put.Lts as lts
-use Rattle.price.proofs.magnitude.Reads as magnitude-reads
-use Rattle.text.proofs.put.Reads as put-reads
-use Rattle.price.proofs.put_amount.Reads as put-amount-reads
 
 magnitude-requires : tie.Need-magnitude-requires
 magnitude-requires c κs = search needs

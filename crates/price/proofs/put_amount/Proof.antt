@@ -1,18 +1,12 @@
 -- `price::put_amount` meets its contract. Assumes nothing.
 use borrow.Author.Tests.{eq-eqb, ne-eqb}
-use Rattle.text.proofs.Stores.{and-then, as-text}
+use Rattle.text.proofs.Stores.{and-then}
 use Rattle.price.specs.PriceText.{amountText, fractionText}
 use native.Mathlib.Omega.{arith}
-use mathlib.Core.List.{List, [], _∷_, _++_, append-nil}
-use mathlib.Core.Path.{_≡_, refl, sym, ap, _∙_}
+use mathlib.Core.List.{append-nil}
 use borrow.Author.Needs.{needs}
 use Rattle.price.proofs.put_amount.Statement.{statement}
 use Rattle.price.proofs.put_amount.Tie as tie
-use Rattle.price.proofs.put_amount.Reads as reads
-use Rattle.price.proofs.put_amount.Lts as lts
-use Rattle.text.proofs.put.Reads as put-reads
-use Rattle.text.proofs.put_decimal.Reads as put-decimal-reads
-use Rattle.price.proofs.put_decimals.Reads as put-decimals-reads
 
 put-decimal-requires : tie.Need-put-decimal-requires
 put-decimal-requires c κs = search needs

@@ -1,6 +1,6 @@
 -- `price::put_decimals` meets its contract: the zeros at the end are dropped one a turn. Assumes nothing.
-use mathlib.Core.Path.{_≡_, refl, sym, ap, _∙_}
-use Prim.Native.Nat.{ℕ, _+_, _-_, _≤_, _<_, _^_}
+use mathlib.Core.Path.{_≡_, refl, _∙_}
+use Prim.Native.Nat.{_-_, _≤_, _<_, _^_}
 use native.Mathlib.Omega.{arith}
 use lib.ListN.{length}
 use Rattle.text.specs.Text.{fixed}
@@ -10,9 +10,6 @@ use Rattle.price.proofs.Back.{decimals-any, decimals-stop, decimals-mor
 use borrow.Author.Needs.{needs}
 use Rattle.price.proofs.put_decimals.Statement.{statement}
 use Rattle.price.proofs.put_decimals.Tie as tie
-use Rattle.price.proofs.put_decimals.Reads as reads
-use Rattle.price.proofs.put_decimals.Lts as lts
-use Rattle.text.proofs.put_fixed.Reads as put-fixed-reads
 
 abbrev Inv-loop : tie.InvT-loop
 Inv-loop out at f k₀ m₀ k m = (0 < m) × (m < 10 ^ k) × (k ≤ 7) × (decimals 7 f ≡ decimals k m)

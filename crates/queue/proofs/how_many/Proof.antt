@@ -4,14 +4,12 @@ use Rattle.cells.proofs.Tables.{tab-turn, tab-end}
 use Rattle.book.specs.declared.Update.{Update}
 use Rattle.cells.specs.Runs.{updatesIn}
 use Rattle.cells.specs.Cells.{tab, updateAt}
-use lib.ListN.{getD, drop}
-use lib.Dec.{ltb}
+use lib.ListN.{drop}
 use native.Mathlib.Omega.{arith}
-use native.Mathlib.Nat.{zero-add, add-zero, add-assoc}
+use native.Mathlib.Nat.{zero-add, add-zero}
 use Prim.Native.Nat.{ℕ, _+_, _*_, _-_, _≤_}
-use mathlib.Core.Bool.{Bool, true, false, cond}
 use mathlib.Core.List.{_∷_}
-use mathlib.Core.Path.{_≡_, _∙_, sym, ap}
+use mathlib.Core.Path.{_≡_, _∙_, sym}
 use borrow.Author.Needs.{needs}
 use Rattle.queue.proofs.how_many.Statement.{statement}
 use Rattle.queue.proofs.how_many.Tie as tie

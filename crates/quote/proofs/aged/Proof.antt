@@ -1,5 +1,4 @@
 -- `quote::aged` meets its contract. Assumes nothing.
-use mathlib.Core.Path.{_≡_, sym, _∙_}
 use mir.Facts.{toZ-ofZ, toZ-pos}
 use native.Mathlib.Omega.{arith}
 use mir.Syntax.{w64}
@@ -7,8 +6,6 @@ use Prim.Native.Nat.{_*_, _^_, _<_}
 use borrow.Author.Needs.{needs}
 use Rattle.quote.proofs.aged.Statement.{statement}
 use Rattle.quote.proofs.aged.Tie as tie
-use Rattle.quote.proofs.aged.Reads as reads
-use Rattle.quote.proofs.aged.Lts as lts
 
 returns : tie.Need-returns
 returns c = let f = c .before .fits .age in rw (rw (toZ-ofZ f) at (c .if1 .taken))

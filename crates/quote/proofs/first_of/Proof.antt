@@ -1,13 +1,10 @@
 -- `quote::first_of` meets its contract. Assumes nothing.
-use mathlib.Core.Path.{_≡_, ap, sym, _∙_}
+use mathlib.Core.Path.{ap, sym, _∙_}
 use Rattle.quote.specs.declared.Top.{Top}
 use Rattle.quote.proofs.Tops.{top-none, top-some}
 use borrow.Author.Needs.{needs}
 use Rattle.quote.proofs.first_of.Statement.{statement}
 use Rattle.quote.proofs.first_of.Tie as tie
-use Rattle.quote.proofs.first_of.Reads as reads
-use Rattle.quote.proofs.first_of.Lts as lts
-use Rattle.cells.proofs.load_entry.Reads as load-entry-reads
 
 mul-if1 : tie.Need-mul-if1
 mul-if1 c = search needs

@@ -1,5 +1,5 @@
 -- `quote::quote_at` meets its contract, test by test. Assumes nothing.
-use mathlib.Core.Path.{_≡_, sym, _∙_}
+use mathlib.Core.Path.{sym, _∙_}
 use mir.Syntax.{w64}
 use mir.Facts.{toZ-ofZ}
 use Rattle.store.specs.Meaning.{st}
@@ -7,12 +7,6 @@ use Rattle.quote.proofs.Asked.{not-followed, is-waiting, nothing-heard,
 use borrow.Author.Needs.{needs}
 use Rattle.quote.proofs.quote_at.Statement.{statement}
 use Rattle.quote.proofs.quote_at.Tie as tie
-use Rattle.quote.proofs.quote_at.Reads as reads
-use Rattle.quote.proofs.quote_at.Lts as lts
-use Rattle.heading.proofs.Heading.waits.Reads as waits-reads
-use Rattle.moment.proofs.age.Reads as age-reads
-use Rattle.quote.proofs.aged.Reads as aged-reads
-use Rattle.quote.proofs.first_of.Reads as first-of-reads
 
 returns : tie.Need-returns
 returns c = let a = c .before .before .before .args in sym (not-followed (st (a .h) (a .store .now)) (a .i) (a .time) (a .limit) (c .if1 .taken))

@@ -1,5 +1,5 @@
 -- `quote::quote_for` meets its contract: the arguments in order, then the instrument. Assumes nothing.
-use mathlib.Core.Path.{_≡_, sym, _∙_}
+use mathlib.Core.Path.{sym, _∙_}
 use Rattle.store.specs.Meaning.{st, boardIn}
 use Rattle.moment.proofs.Bounds.{moment-lt}
 use Rattle.quote.proofs.Asked.{no-moment, no-id, long-limit, good}

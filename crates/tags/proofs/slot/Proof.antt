@@ -1,5 +1,5 @@
 -- `tags::slot` meets its contract: each arm is the place of its tag among those named. Assumes nothing.
-use mathlib.Core.Path.{_≡_, sym}
+use mathlib.Core.Path.{sym}
 use native.Mathlib.Omega.{arith}
 use borrow.Author.Tests.{ne-eqb}
 use Rattle.tags.specs.Slots.{slotOf}

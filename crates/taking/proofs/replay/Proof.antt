@@ -5,11 +5,10 @@ use Rattle.store.specs.Meaning.{queuedAt}
 use Rattle.cells.proofs.Tables.{tab-end}
 use Rattle.cells.specs.Cells.{tab}
 use Rattle.book.specs.Sides.{bookStep}
-use Rattle.book.specs.declared.Update.{Update}
 use borrow.Author.Tests.{not-true, not-false}
-use lib.ListN.{getD, drop}
+use lib.ListN.{drop}
 use native.Mathlib.Omega.{arith}
-use Prim.Native.Nat.{_+_, _*_, _-_, _≤_}
+use Prim.Native.Nat.{_-_, _≤_}
 use mathlib.Core.Bool.{true, false}
 use mathlib.Core.Path.{_≡_, refl, sym, ap, _∙_}
 use borrow.Author.Needs.{needs}

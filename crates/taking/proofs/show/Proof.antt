@@ -3,16 +3,13 @@ use Rattle.taking.proofs.Showing.{Shows, shows-none, shows-over, shows-
 use Rattle.board.specs.Snapshot.{entriesOf}
 use Rattle.cells.proofs.Tables.{tab-end}
 use Rattle.cells.specs.Runs.{updatesIn}
-use Rattle.cells.specs.Cells.{tab, updateAt}
+use Rattle.cells.specs.Cells.{updateAt}
 use Rattle.book.specs.declared.Update.{Update}
 use borrow.Author.Tests.{eq-eqb, ne-eqb}
-use lib.ListN.{length, drop}
+use lib.ListN.{drop}
 use lib.Dec.{eqb}
 use native.Mathlib.Omega.{arith}
-use Prim.Native.Nat.{ℕ, _+_, _*_, _-_, _≤_}
-use mathlib.Core.List.{_∷_}
-use mathlib.Core.Bool.{true, false}
-use mathlib.Core.Path.{_≡_, refl, sym, ap, _∙_}
+use Prim.Native.Nat.{ℕ, _*_, _-_, _≤_}
 use borrow.Author.Needs.{needs}
 use Rattle.taking.proofs.show.Statement.{statement}
 use Rattle.taking.proofs.show.Tie as tie

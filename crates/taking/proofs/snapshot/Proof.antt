@@ -6,7 +6,7 @@ use Rattle.store.specs.Meaning.{st}
 use Rattle.cells.specs.Runs.{updatesIn}
 use native.Mathlib.Omega.{arith}
 use Prim.Native.Nat.{ℕ, _<_}
-use mathlib.Core.Path.{_≡_, ap, sym, _∙_}
+use mathlib.Core.Path.{ap, sym, _∙_}
 use borrow.Author.Needs.{needs}
 use Rattle.taking.proofs.snapshot.Statement.{statement}
 use Rattle.taking.proofs.snapshot.Tie as tie

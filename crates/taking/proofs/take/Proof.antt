@@ -3,7 +3,7 @@ use Rattle.taking.proofs.Ways.{it-broke, it-held}
 use Rattle.taking.specs.Replays.{replayedS, takeS}
 use Rattle.queue.specs.Joins.{settleS}
 use Rattle.store.specs.Answers.{fed}
-use Rattle.store.specs.Meaning.{State, st}
+use Rattle.store.specs.Meaning.{st}
 use Rattle.book.specs.declared.Turn.{Turn}
 use mathlib.Core.Path.{ap, _∙_}
 use borrow.Author.Needs.{needs}

@@ -1,18 +1,14 @@
 use Rattle.text.proofs.Stores.{left-all, left-more, left-none}
-use Rattle.text.specs.Text.{Left, Wrote}
-use lib.Seq.{sets, drop-cons}
+use Rattle.text.specs.Text.{Left}
+use lib.Seq.{drop-cons}
 use lib.ListN.{length, drop, drop-of-length-le}
-use mathlib.Core.List.{List, [], _∷_, _++_}
 use native.Mathlib.Numerals.{add-one}
 use native.Mathlib.Omega.{arith}
-use Prim.Native.Nat.{ℕ, _+_, _-_, _≤_, _<_}
-use mathlib.Core.Path.{_≡_, refl, sym, ap, _∙_}
+use Prim.Native.Nat.{_+_, _-_, _≤_}
+use mathlib.Core.Path.{_≡_, refl, _∙_}
 use borrow.Author.Needs.{needs}
 use Rattle.text.proofs.put_bytes.Statement.{statement}
 use Rattle.text.proofs.put_bytes.Tie as tie
-use Rattle.text.proofs.put_bytes.Reads as reads
-use Rattle.text.proofs.put_bytes.Lts as lts
-use Rattle.text.proofs.put.Reads as put-reads
 
 abbrev Inv-loop : tie.InvT-loop
 Inv-loop out₀ at s i₀ a₀ out i a = (i ≤ length s) × (a ≡ at + i) × (length out ≡ length out₀) × Left out a (drop i s) out₀ at s

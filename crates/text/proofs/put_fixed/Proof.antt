@@ -1,5 +1,5 @@
-use mathlib.Core.Path.{_≡_, refl, sym, ap, _∙_}
-use Prim.Native.Nat.{ℕ, _+_, _-_, _≤_, _<_}
+use mathlib.Core.Path.{_≡_, refl, _∙_}
+use Prim.Native.Nat.{_+_, _-_, _≤_}
 use native.Mathlib.Omega.{arith}
 use lib.ListN.{length}
 use lib.Seq.{sets}
@@ -8,10 +8,6 @@ use Rattle.text.proofs.Written.{back-turn, length-fixed}
 use borrow.Author.Needs.{needs}
 use Rattle.text.proofs.put_fixed.Statement.{statement}
 use Rattle.text.proofs.put_fixed.Tie as tie
-use Rattle.text.proofs.put_fixed.Reads as reads
-use Rattle.text.proofs.put_fixed.Lts as lts
-use Rattle.text.proofs.ascii.Reads as ascii-reads
-use Rattle.text.proofs.put.Reads as put-reads
 
 abbrev Inv-loop : tie.InvT-loop
 Inv-loop out₀ at w n m₀ i₀ out m i = (i ≤ w) × (sets out at (fixed i m) ≡ sets out₀ at (fixed w n)) × (length out ≡ length out₀)

@@ -1,15 +1,13 @@
-use mathlib.Core.Path.{_≡_, refl, sym, ap, _∙_}
-use Prim.Native.Nat.{ℕ, _+_, _-_, _≤_, _<_, _^_}
+use mathlib.Core.Path.{_≡_, refl}
+use Prim.Native.Nat.{_-_, _≤_, _<_, _^_}
 use native.Mathlib.Omega.{arith}
-use native.Mathlib.Nat.{pow-suc, le-antisymm}
+use native.Mathlib.Nat.{pow-suc}
 use native.Mathlib.Numerals.{add-one}
 use Rattle.text.specs.Text.{widthOf}
 use Rattle.text.proofs.Written.{width-more, width-le, width-pos}
 use borrow.Author.Needs.{needs}
 use Rattle.text.proofs.width.Statement.{statement}
 use Rattle.text.proofs.width.Tie as tie
-use Rattle.text.proofs.width.Reads as reads
-use Rattle.text.proofs.width.Lts as lts
 
 abbrev Inv-loop : tie.InvT-loop
 Inv-loop n w₀ p₀ w p = (p ≡ 10 ^ w) × (1 ≤ w) × (w ≤ widthOf n) × (widthOf n ≤ 18)

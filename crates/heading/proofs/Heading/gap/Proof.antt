@@ -3,8 +3,6 @@ use Rattle.heading.specs.Marks.{allMarks}
 use borrow.Author.Needs.{needs}
 use Rattle.heading.proofs.Heading.gap.Statement.{statement}
 use Rattle.heading.proofs.Heading.gap.Tie as tie
-use Rattle.heading.proofs.Heading.gap.Reads as reads
-use Rattle.heading.proofs.Heading.gap.Lts as lts
 
 sub-h : tie.Need-sub-h
 sub-h c = search needs

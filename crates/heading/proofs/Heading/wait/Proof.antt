@@ -3,16 +3,14 @@ use Prim.Native.Nat.{ℕ, _^_}
 use native.Mathlib.Nat.{one-mul}
 use native.Mathlib.Omega.{arith}
 use lib.Pow.{shl-exact}
-use lib.Bits.{bitAnd, bitOr}
+use lib.Bits.{bitOr}
 use lib.Dec.{lit<}
 use Prim.Native.Nat.{_-_}
-use Rattle.heading.specs.Marks.{withMark, withoutMark}
+use Rattle.heading.specs.Marks.{withMark}
 use Rattle.heading.specs.Headings.{marksNow}
 use borrow.Author.Needs.{needs}
 use Rattle.heading.proofs.Heading.wait.Statement.{statement}
 use Rattle.heading.proofs.Heading.wait.Tie as tie
-use Rattle.heading.proofs.Heading.wait.Reads as reads
-use Rattle.heading.proofs.Heading.wait.Lts as lts
 
 cast-h : tie.Need-cast-h
 cast-h c = search needs

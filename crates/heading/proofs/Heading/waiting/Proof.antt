@@ -2,8 +2,6 @@ use Rattle.heading.proofs.Bits.{ones-marked}
 use borrow.Author.Needs.{needs}
 use Rattle.heading.proofs.Heading.waiting.Statement.{statement}
 use Rattle.heading.proofs.Heading.waiting.Tie as tie
-use Rattle.heading.proofs.Heading.waiting.Reads as reads
-use Rattle.heading.proofs.Heading.waiting.Lts as lts
 
 returns : tie.Need-returns
 returns c = ones-marked 16 (c .before .args .self .marks) (search needs)

@@ -3,8 +3,6 @@ use Rattle.heading.specs.Marks.{marked}
 use borrow.Author.Needs.{needs}
 use Rattle.heading.proofs.Heading.waits.Statement.{statement}
 use Rattle.heading.proofs.Heading.waits.Tie as tie
-use Rattle.heading.proofs.Heading.waits.Reads as reads
-use Rattle.heading.proofs.Heading.waits.Lts as lts
 
 cast-result : tie.Need-cast-result
 cast-result c = search needs
