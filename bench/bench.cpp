@@ -192,6 +192,28 @@ void measure_others(Depth depth, const FIX::DataDictionary &dictionary, const Me
     measure(all);
 }
 
+// A store whose 640 places hold order ids of this kind.
+Store filled(Ids ids) {
+    const Stream stream = make_stream(ORDER_DEPTH, 0, 1, ids);
+    Store store;
+    open(store, ORDER_DEPTH, stream);
+    for (const std::string &w : stream.snapshots) take(store, w);
+    return store;
+}
+
+// The scan by the order ids that a store holds, at one place in memory, since the time depends on that too.
+void measure_scans(const Measure &measure) {
+    const Case c = {ORDER_DEPTH, 0, 0};
+    const Store uniform = filled(LONG_IDS), mixed = filled(MIXED_IDS);
+    Store store;
+    auto scans = again([&] { return scan(store.data()); });
+    std::vector<Measured> all = {
+        {columns(c, 0, "scan"), CALLS_A_ROUND, [&] { store = uniform; }, scans, {}},
+        {columns(c, 0, "scan_mixed"), CALLS_A_ROUND, [&] { store = mixed; }, scans, {}},
+    };
+    measure(all);
+}
+
 void do_round(Measured &m) {
     if (!m.round()) fail("a call went wrong: " + m.what);
 }
@@ -252,4 +274,5 @@ int main(int argc, char **argv) {
         for (Depth depth : {ORDER_DEPTH, PRICE_DEPTH})
             for (int entries : {1, 4, 10, 64}) measure_case({depth, entries, waiting}, dictionary, measure);
     for (Depth depth : {ORDER_DEPTH, PRICE_DEPTH}) measure_others(depth, dictionary, measure);
+    measure_scans(measure);
 }

@@ -7,10 +7,12 @@ from results import DEPTHS, ENTRIES, QUICKFIX, Case, Results
 
 CALLS = ("open", "feed", "quote", "write", "state")
 STATES = ("none waiting", "one waiting")
+SCANS = Case("order", 0, 0)
 MOST_STACK = 24576  # bytes
 
 # An aim on times: what it says, what is compared for messages of how many entries, and the bound.
 SCAN_AIM = ("the scan takes at most 0.5 of QuickFIX's parse of 1 entry", 0.5)
+MIXED_AIM = ("the scan of mixed order ids takes at most 1.25 of the uniform one", 1.25)
 FEED_AIMS = (
     ("feeding 1 entry takes less than QuickFIX's parse", "feed", "parse", 1, 1.0),
     ("feeding 10 entries takes under 0.4 of QuickFIX with its book", "feed", "book", 10, 0.4),
@@ -23,7 +25,8 @@ NOTES = """\
   and all others join the queue, which a round fills to at most 256.
 - `feed` is `selkavorn_feed`: it scans the store, reads and checks the message, counts it, and changes the books. `scan` is
   `selkavorn_state` that is given no room, so the scan with the shortest refusal, of a store that holds all 640 places; where one
-  waits it holds 600, and the queue is full in it, and half full in `feed` on average.
+  waits it holds 600, and the queue is full in it, and half full in `feed` on average. Order ids have 10 bytes; where they are
+  mixed, each has 10 or 5, drawn evenly, and both stores are scanned at the same address.
 - `parse` is QuickFIX's `Message` made from the same bytes with a dictionary of the same tags (`bench/dictionary.xml`), which
   checks length and checksum; `validate` adds its validation by that dictionary; `book` adds the number, its time, and plain
   vectors of places that take the entries, without a queue (`bench/peer.cpp`).
@@ -98,6 +101,8 @@ def others(results):
                               ("write", "write, 40 places"), ("state", "state")):
             counted = results.instructions.get((case, what))
             rows.append([f"{depth} depth: {meaning}", number(results.ns(case, what)), number(counted)])
+    for what, meaning in (("scan", "scan, order ids of 10 bytes"), ("scan_mixed", "scan, order ids of 5 and of 10 bytes")):
+        rows.append([f"order depth: {meaning}", number(results.ns(SCANS, what)), number(results.instructions.get((SCANS, what)))])
     return table(["call", "ns", "instructions"], rows)
 
 
@@ -128,6 +133,9 @@ def judged(results):
     says, bound = SCAN_AIM
     scans = [scan_ratio(results, waiting) for waiting in range(len(STATES))]
     yield says, [f"{ratio:.2f}" for ratio in scans], scans[0] <= bound
+    says, bound = MIXED_AIM
+    mixed = results.ratio(SCANS, "scan_mixed", "scan")
+    yield says, [f"{mixed:.2f}", "-"], mixed <= bound
     for says, ours, theirs, entries, bound in FEED_AIMS:
         worst = [max(results.ratio(Case(depth, entries, waiting), ours, theirs) for depth in DEPTHS)
                  for waiting in range(len(STATES))]

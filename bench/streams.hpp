@@ -9,6 +9,9 @@ constexpr int PLACES = 20;
 
 enum Depth { ORDER_DEPTH = 0, PRICE_DEPTH = 1 };
 
+// Order ids: all of 10 bytes, or some of 10 and some of 5, drawn evenly.
+enum Ids { LONG_IDS, MIXED_IDS };
+
 struct Stream {
     std::vector<uint64_t> ids;          // the SecurityIDs followed
     std::vector<std::string> snapshots; // a W of 20 bids and 20 offers for each, with 369 = 0
@@ -23,4 +26,4 @@ std::string message(char type, const std::string &fields);
 
 // `messages` X of `entries` entries each. Instruments, sides and places are drawn evenly. At a side of 20 places an entry is a
 // change or a delete, at one of 19 a change or a new, each as often as the other, so that sides hold 19 or 20.
-Stream make_stream(Depth depth, int messages, int entries);
+Stream make_stream(Depth depth, int messages, int entries, Ids ids = LONG_IDS);
