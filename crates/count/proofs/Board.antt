@@ -9,6 +9,7 @@ use borrow.Author.Tests.{eqb-true, eqb-false}
 use Rattle.book.specs.declared.Update.{Update}
 use Rattle.book.proofs.Tests.{by-test}
 use Rattle.cells.specs.Cells.{tab}
+use Rattle.board.specs.Board.{letGo as letGoB}
 use Rattle.board.specs.Board.{out, settled}
 use Rattle.board.specs.Count.{gives, joined, counted, countBy, count, numberBy, number}
 use Rattle.store.specs.Meaning.{boardOf, State, boardIn}

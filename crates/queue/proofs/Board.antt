@@ -13,6 +13,7 @@ use Rattle.book.specs.declared.Update.{Update}
 use Rattle.cells.specs.Cells.{tab, zeros, queuedWords}
 use Rattle.cells.proofs.Tables.{tab-snoc}
 use Rattle.heading.specs.Headings.{queuedMore}
+use Rattle.board.specs.Board.{letGo as letGoB}
 use Rattle.board.specs.Board.{Board, withQueue, settled}
 use Rattle.board.specs.Count.{joining, longer, overflows, joined}
 use Rattle.store.specs.Layout.{slotOf}

@@ -1,4 +1,5 @@
 // What stands in a record's bytes.
+ghost use lib.ListN.{length as ListN·length};
 ghost use Prim.Native.Nat.{_≤_, _<_};
 
 // The most SecurityIDs that are handed to an opening. It refuses more than 16, so none beyond these can matter.
