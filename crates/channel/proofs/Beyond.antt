@@ -35,7 +35,8 @@ use Rattle.deliver.proofs.Applying.{applies}
 use Rattle.deliver.proofs.Giving.{give-formed}
 use Rattle.count.specs.Counts.{countedS, countS, numberS}
 use Rattle.count.proofs.Board.{counted-formed}
-use Rattle.taking.specs.Replays.{replayB, liveS, takeS, refusalOf, snapS}
+use Rattle.taking.specs.Replays.{replayB, liveS, takeS, snapS}
+use Rattle.terms.specs.Terms.{refusalOf}
 use Rattle.taking.proofs.Outcomes.{replay-kept}
 use Rattle.taking.proofs.Board.{not-refused}
 use Rattle.channel.specs.Feeds.{aimedAt, feedS}

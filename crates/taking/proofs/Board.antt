@@ -29,7 +29,8 @@ use Rattle.queue.proofs.Board.{settle-board}
 use Rattle.deliver.specs.Gives.{breakS}
 use Rattle.deliver.proofs.Outcomes.{lists-of, outcomeOf}
 use Rattle.deliver.proofs.Breaking.{mark-own, break-formed, break-board}
-use Rattle.taking.specs.Replays.{replayB, liveS, replayedS, takeS, refusalOf, takeShownS, snapAtS, snapS}
+use Rattle.taking.specs.Replays.{replayB, liveS, replayedS, takeS, takeShownS, snapAtS, snapS}
+use Rattle.terms.specs.Terms.{refusalOf}
 use Rattle.taking.proofs.Outcomes.{replay-kept, replay-outcome}
 use Rattle.taking.proofs.Living.{live-formed, live-board}
 

@@ -14,7 +14,8 @@ use Rattle.book.proofs.Keeping.{kept-apply}
 use Rattle.board.specs.Board.{Queued}
 use Rattle.board.specs.Snapshot.{andThen, run, after}
 use Rattle.deliver.proofs.Outcomes.{outcomeOf, step-outcome}
-use Rattle.taking.specs.Replays.{due, next, replayB}
+use Rattle.taking.specs.Replays.{next, replayB}
+use Rattle.terms.specs.Terms.{due}
 
 pub replay-kept : (i S : ℕ) (qs : List Queued) (b : Book) → KeptBook b → KeptBook (replayB i S qs b .book)
 unfolding replayB

@@ -11,7 +11,8 @@ use Rattle.book.specs.Sides.{bookStep}
 use Rattle.cells.specs.Cells.{tab}
 use Rattle.cells.proofs.Tables.{tab-turn}
 use Rattle.board.specs.Board.{Queued}
-use Rattle.taking.specs.Replays.{due, next, replayB}
+use Rattle.taking.specs.Replays.{next, replayB}
+use Rattle.terms.specs.Terms.{due}
 
 module _ (i S : ℕ) (f : ℕ → Queued) (q k : ℕ) (b : Book) (h : k < q) where
   pub passes : due i S (f k .update .who) (f k .number) ≡ false → replayB i S (drop (k + 1) (tab f q)) b ≡ replayB i S (drop k (tab f q)) b

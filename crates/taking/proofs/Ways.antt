@@ -11,7 +11,8 @@ use Rattle.store.specs.Meaning.{State}
 use Rattle.store.specs.Answers.{FedS, fed}
 use Rattle.queue.specs.Joins.{settleS}
 use Rattle.deliver.specs.Gives.{breakS}
-use Rattle.taking.specs.Replays.{liveS, replayedS, refusalOf, takeShownS, snapAtS}
+use Rattle.taking.specs.Replays.{liveS, replayedS, takeShownS, snapAtS}
+use Rattle.terms.specs.Terms.{refusalOf}
 
 module _ (i : ℕ) (t : Turn) (s : State) where
   pub it-broke : (t .reason ≡ 0 → ⊥) → fed 10 (breakS i (t .reason) s) ≡ replayedS i t s

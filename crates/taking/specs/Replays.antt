@@ -1,8 +1,8 @@
 -- A snapshot on the store: refused, or taken with what was queued after it.
-use mathlib.Core.Bool.{Bool, cond, _&&_}
+use mathlib.Core.Bool.{cond}
 use mathlib.Core.List.{List, [], _∷_}
 use Prim.Native.Nat.{ℕ}
-use lib.Dec.{ltb, leb, eqb}
+use lib.Dec.{eqb}
 use lib.Seq.{sets}
 use Rattle.book.specs.declared.Book.{Book}
 use Rattle.book.specs.declared.Turn.{Turn}
@@ -10,8 +10,7 @@ use Rattle.book.specs.declared.Update.{Update}
 use Rattle.book.specs.Sides.{bookStep}
 use Rattle.book.specs.Canonical.{bookOf}
 use Rattle.cells.specs.Cells.{tab, sideWords}
-use Rattle.heading.specs.declared.Heading.{Heading}
-use Rattle.heading.specs.Marks.{marked, withoutMark}
+use Rattle.heading.specs.Marks.{withoutMark}
 use Rattle.heading.specs.Headings.{marksNow}
 use Rattle.board.specs.Board.{Queued, look}
 use Rattle.board.specs.Snapshot.{shown, tooWide}
@@ -20,10 +19,7 @@ use Rattle.store.specs.Meaning.{queuedAt, State, st, boardIn}
 use Rattle.store.specs.Answers.{FedS, fed}
 use Rattle.queue.specs.Joins.{settleS}
 use Rattle.deliver.specs.Gives.{breakS}
-
--- A queued entry is applied if it is for instrument i and numbered above S.
-abbrev pub due : ℕ → ℕ → ℕ → ℕ → Bool
-due i S who n = eqb who i && ltb S n
+use Rattle.terms.specs.Terms.{due, refusalOf}
 
 abbrev pub next : Turn → (Book → Turn) → Turn
 next t f = cond (eqb (t .reason) 0) (f (t .book)) t
@@ -44,11 +40,6 @@ replayedS i t s = cond (eqb (t .reason) 0) (fed 4 (settleS (liveS i (t .book) s)
 
 unfoldable pub takeS : ℕ → ℕ → Book → State → FedS
 takeS i S b s = replayedS i (replayB i S (tab (queuedAt (s .store)) (s .head .queued)) b) s
-
--- Not followed 5, already Live 6, S below B 7, S above H 8, or 0.
-unfoldable pub refusalOf : Heading → ℕ → ℕ → ℕ
-refusalOf h i S =
-    cond (leb (h .followed) i) 5 (cond (marked (h .marks) i) (cond (ltb S (h .base)) 7 (cond (ltb (h .number) S) 8 0)) 6)
 
 -- A side over 20 is 9.
 abbrev pub takeShownS : ℕ → ℕ → List Update → State → FedS

@@ -16,30 +16,14 @@ ghost use Rattle.store.specs.Layout.{storeSize};
 ghost use Rattle.store.specs.Meaning.{queuedAt, st};
 ghost use Rattle.store.specs.Canon.{Formed};
 ghost use Rattle.store.specs.Answers.{fed};
-ghost use Rattle.taking.specs.Replays.{due, replayB, liveS, takeS, refusalOf, takeShownS, snapS};
+ghost use Rattle.taking.specs.Replays.{replayB, liveS, takeS, takeShownS, snapS};
 
 // Taken.
 const TAKEN: u64 = 4;
-// Snapshot: not followed.
-const NOT_OURS: u64 = 5;
-// Snapshot: already Live.
-const ALREADY_LIVE: u64 = 6;
-// S below B.
-const BELOW: u64 = 7;
-// S above H.
-const ABOVE: u64 = 8;
 // A side over 20.
 const TOO_WIDE: u64 = 9;
 // Replay broke.
 const BROKE: u64 = 10;
-
-// Whether a queued entry for `who` of message n is one for instrument i with a number above `last`.
-fn is_due(i: usize, last: u64, who: u64, n: u64) -> bool
-    ensures { λ r. ⌜ r ≡ due i last who n ⌝ }
-{
-    let me = i as u64;
-    (who == me) & (last < n)
-}
 
 // The first q queued entries on a book, up to the first breach.
 fn replay(store: &[u64], q: usize, i: usize, last: u64, book: Book) -> Turn
@@ -53,7 +37,7 @@ fn replay(store: &[u64], q: usize, i: usize, last: u64, book: Book) -> Turn
         k += 1;
         let n = store[at];
         let who = store[at + 1];
-        if !is_due(i, last, who, n) {
+        if !terms::is_due(i, last, who, n) {
             continue;
         }
         let u = cells::load_update(store, at + 1);
@@ -127,26 +111,6 @@ fn show(run: &[u64], count: usize, side: u64) -> Side
     Side { places, held: n }
 }
 
-// Why a snapshot for the instrument at index i is refused, or 0.
-fn refusal(h: Heading, i: usize, last: u64) -> u64
-    requires { ⌜ h .followed ≤ 16 ⌝ }
-    ensures { λ r. ⌜ r ≡ refusalOf h i last ⌝ }
-{
-    if h.followed <= i {
-        return NOT_OURS;
-    }
-    if !h.waits(i) {
-        return ALREADY_LIVE;
-    }
-    if last < h.base {
-        return BELOW;
-    }
-    if h.number < last {
-        return ABOVE;
-    }
-    0
-}
-
 // The snapshot of instrument i, if neither side is over 20.
 fn take_shown(store: &mut [u64], h: Heading, i: usize, last: u64, run: &[u64], count: usize) -> Fed
     requires { ⌜ (storeSize ≤ length (now store)) × (h .queued ≤ 256) × (i < 16) × (count * updateSize ≤ length (now run)) ⌝ }
@@ -176,7 +140,7 @@ pub fn snapshot(store: &mut [u64], h: Heading, id: u64, last: u64, run: &[u64], 
     ensures { λ r. ⌜ fed (r .answer) (st (r .head) (now (store .exit))) ≡ snapS id last (updatesIn (now (run .entry)) count) (st h (now (store .entry))) ⌝ }
 {
     let i = store::find(store, h, id);
-    let no = refusal(h, i, last);
+    let no = terms::refusal(h, i, last);
     if no != 0 {
         return Fed {
             head: h,

@@ -1,6 +1,7 @@
 -- `replay` meets its contract: what is left of the queue, on the book so far, gives the same.
 use Rattle.taking.proofs.Turns.{passes, goes-on, stops}
-use Rattle.taking.specs.Replays.{due, replayB}
+use Rattle.taking.specs.Replays.{replayB}
+use Rattle.terms.specs.Terms.{due}
 use Rattle.store.specs.Meaning.{queuedAt}
 use Rattle.cells.proofs.Tables.{tab-end}
 use Rattle.cells.specs.Cells.{tab}

@@ -1,12 +1,12 @@
 -- `refusal` meets its contract: tests in the order of its definition.
-use Rattle.taking.specs.Replays.{refusalOf}
+use Rattle.terms.specs.Terms.{refusalOf}
 use Rattle.heading.specs.Marks.{marked}
 use borrow.Author.Tests.{le-leb, lt-leb, lt-ltb, le-ltb, not-true, not-false}
 use mathlib.Core.Bool.{true, false}
 use mathlib.Core.Path.{_≡_, sym, _∙_}
 use borrow.Author.Needs.{needs}
-use Rattle.taking.proofs.refusal.Statement.{statement}
-use Rattle.taking.proofs.refusal.Tie as tie
+use Rattle.terms.proofs.refusal.Statement.{statement}
+use Rattle.terms.proofs.refusal.Tie as tie
 
 returns : tie.Need-returns
 unfolding refusalOf
