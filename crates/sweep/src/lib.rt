@@ -244,6 +244,7 @@ fn sweep(store: &[u64], marks: u64, from: usize, to: usize, way: Way, most: u64,
         if !sides::places(store, at + 1, few(n), most, full) {
             return refused;
         }
+        let seen = rest | behind(store, at, n);
         if (span < c.by) | (way.top < c.more) {
             return Swept {
                 columns: c,
@@ -251,7 +252,7 @@ fn sweep(store: &[u64], marks: u64, from: usize, to: usize, way: Way, most: u64,
                 upto: j,
             };
         }
-        rest = rest | behind(store, at, n);
+        rest = seen;
         j += 1;
     }
     Swept {
