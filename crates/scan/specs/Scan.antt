@@ -1,6 +1,6 @@
 -- The scan of a store: tests of its numbers by position, in the order in which the code goes. Crate sound shows that it finds
 -- exactly the sound stores.
-use mathlib.Core.Bool.{Bool, true, cond, not, _&&_, _||_}
+use mathlib.Core.Bool.{Bool, cond, not, _&&_, _||_}
 use mathlib.Core.List.{List}
 use Prim.Native.Nat.{ℕ, zero, suc, _+_, _*_, _-_, _/_, _^_}
 use lib.Dec.{ltb, leb, eqb}
