@@ -209,14 +209,9 @@ fn behind(store: &[u64], at: usize, n: usize) -> u64
     unused | spare
 }
 
-// The sides from the index `from` up to `to`, their places taken by column, so that each column of all sides is tested once. It stops
-// before a side whose order ids don't go the way that is asked for: what comes is of the sides before it. Where the tests don't pass
-// it says nothing: numbers that lie within a limit may reach above it when they are joined.
-fn sweep(store: &[u64], marks: u64, from: usize, to: usize, way: Way, most: u64, full: u64) -> Swept
-    requires { ⌜ (storeSize ≤ length (now store)) × (to ≤ 32) × (way .low ≤ most) ⌝ }
-    ensures { λ r. ⌜ Settles way most full marks (now (store .entry)) from r ⌝ }
-{
-    let none = Columns {
+// The columns of no place.
+fn no_columns() -> Columns {
+    Columns {
         size: 0,
         by: 0,
         more: 0,
@@ -224,7 +219,17 @@ fn sweep(store: &[u64], marks: u64, from: usize, to: usize, way: Way, most: u64,
         even: 0,
         odd: 0,
         price: 0,
-    };
+    }
+}
+
+// The sides from the index `from` up to `to`, their places taken by column, so that each column of all sides is tested once. It stops
+// before a side whose order ids don't go the way that is asked for: what comes is of the sides before it. Where the tests don't pass
+// it says nothing: numbers that lie within a limit may reach above it when they are joined.
+fn sweep(store: &[u64], marks: u64, from: usize, to: usize, way: Way, most: u64, full: u64) -> Swept
+    requires { ⌜ (storeSize ≤ length (now store)) × (to ≤ 32) × (way .low ≤ most) ⌝ }
+    ensures { λ r. ⌜ Settles way most full marks (now (store .entry)) from r ⌝ }
+{
+    let none = no_columns();
     let refused = Swept {
         columns: none,
         rest: 1,

@@ -19,6 +19,9 @@ Inv-loop store marks from to way most full refused span c₀ rest₀ j₀ c rest
 abbrev μ-loop : tie.MeasureT-loop
 μ-loop store marks from to way most full refused span c₀ rest₀ j₀ c rest j = to - j
 
+no-columns-requires : tie.Need-no-columns-requires Inv-loop μ-loop
+no-columns-requires c κs = search needs
+
 sub-span : tie.Need-sub-span Inv-loop μ-loop
 sub-span c = search needs
 
@@ -72,7 +75,7 @@ returns-3 c =
 add-j : tie.Need-add-j Inv-loop μ-loop
 add-j c =
     let t = c .before .before .before .before .before .before .before .before .before .before .before .before in
-    omega (arith, t .loop-test .taken, t .before .before .before .before .pre .1)
+    omega (arith, t .loop-test .taken, t .before .before .before .before .before .pre .1)
 
 loop-less : tie.Need-loop-less Inv-loop μ-loop
 loop-less c = search needs
@@ -84,7 +87,7 @@ loop-again c =
     let f = p .before .before .before in
     let r = f .before .before in
     let l = r .before .before .before .loop in
-    let s = r .before .before .before .before .before .before in
+    let s = r .before .before .before .before .before .before .before in
     let a = s .args in
     let xs = a .store .now in
     let n = getD xs (160 + l .j * 128) 0 in
@@ -112,6 +115,7 @@ sweep-spec =
     (tie.spec
     Inv-loop
     μ-loop
+    no-columns-requires
     sub-span
     loop-holds
     mul-at
