@@ -31,8 +31,8 @@ Ids low most top c = (c .by + low ≤ most) × (c .more ≤ top)
 abbrev pub Alone : ℕ → List ℕ → ℕ → Type 0
 Alone full xs at = getD xs (at + 2) 0 < full → getD xs (at + 3) 0 ≡ 0
 
--- The entry at `at` lies within: `by` in `low` to `most`, `more` at most `top`, and where words are mixed none of 8 bytes is missing
--- before a second one.
+-- The entry at `at` lies within: `by` in `low` to `most`, `more` at most `top`, and where words are mixed a second one stands only
+-- beside a first one of 8 bytes.
 pub record Stands (low most top full : ℕ) (mixed : Bool) (xs : List ℕ) (at : ℕ) : Type 0 where
   pub price : getD xs at 0 ≤ heldTop
   pub size : (1 ≤ getD xs (at + 1) 0) × (getD xs (at + 1) 0 ≤ 999999999999)

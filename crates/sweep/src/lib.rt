@@ -2,7 +2,7 @@
 // compared once. Where that passes it settles every place; where it doesn't it says nothing, and crate scan tests place by place.
 ghost use mathlib.Core.Path.{_≡_};
 ghost use mathlib.Core.Bool.{true, false, cond, _&&_};
-ghost use Prim.Native.Nat.{ℕ, _+_, _*_, _-_, _≤_, _<_};
+ghost use Prim.Native.Nat.{ℕ, _+_, _*_, _-_, _≤_};
 ghost use lib.Dec.{ltb, eqb};
 ghost use lib.ListN.{length};
 ghost use Rattle.store.specs.Layout.{storeSize, sideSpare};
@@ -210,14 +210,9 @@ fn behind(store: &[u64], at: usize, n: usize) -> u64
     unused | spare
 }
 
-// The sides from the index `from` up to `to`, their places taken by column, so that each column of all sides is tested once. It stops
-// before a side whose order ids don't go the way that is asked for: what comes is of the sides before it. Where the tests don't pass
-// it says nothing: numbers that lie within a limit may reach above it when they are joined.
-fn sweep(store: &[u64], marks: u64, from: usize, to: usize, way: Way, most: u64, full: u64) -> Swept
-    requires { ⌜ (storeSize ≤ length (now store)) × (to ≤ 32) × (way .low ≤ most) ⌝ }
-    ensures { λ r. ⌜ Settles way most full marks (now (store .entry)) from r ⌝ }
-{
-    let none = Columns {
+// The columns of no place.
+fn no_columns() -> Columns {
+    Columns {
         size: 0,
         by: 0,
         more: 0,
@@ -225,7 +220,17 @@ fn sweep(store: &[u64], marks: u64, from: usize, to: usize, way: Way, most: u64,
         even: 0,
         odd: 0,
         price: 0,
-    };
+    }
+}
+
+// The sides from the index `from` up to `to`, their places taken by column, so that each column of all sides is tested once. It stops
+// before a side whose order ids don't go the way that is asked for: what comes is of the sides before it. Where the tests don't pass
+// it says nothing: numbers that lie within a limit may reach above it when they are joined.
+fn sweep(store: &[u64], marks: u64, from: usize, to: usize, way: Way, most: u64, full: u64) -> Swept
+    requires { ⌜ (storeSize ≤ length (now store)) × (to ≤ 32) × (way .low ≤ most) ⌝ }
+    ensures { λ r. ⌜ Settles way most full marks (now (store .entry)) from r ⌝ }
+{
+    let none = no_columns();
     let refused = Swept {
         columns: none,
         rest: 1,
@@ -245,6 +250,7 @@ fn sweep(store: &[u64], marks: u64, from: usize, to: usize, way: Way, most: u64,
         if !sides::places(store, at + 1, few(n), most, full) {
             return refused;
         }
+        let seen = rest | behind(store, at, n);
         if (span < c.by) | (way.top < c.more) {
             return Swept {
                 columns: c,
@@ -252,7 +258,7 @@ fn sweep(store: &[u64], marks: u64, from: usize, to: usize, way: Way, most: u64,
                 upto: j,
             };
         }
-        rest = rest | behind(store, at, n);
+        rest = seen;
         j += 1;
     }
     Swept {

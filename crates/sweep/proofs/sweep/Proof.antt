@@ -19,6 +19,9 @@ Inv-loop store marks from to way most full refused span c₀ rest₀ j₀ c rest
 abbrev μ-loop : tie.MeasureT-loop
 μ-loop store marks from to way most full refused span c₀ rest₀ j₀ c rest j = to - j
 
+no-columns-requires : tie.Need-no-columns-requires Inv-loop μ-loop
+no-columns-requires c κs = search needs
+
 sub-span : tie.Need-sub-span Inv-loop μ-loop
 sub-span c = search needs
 
@@ -61,43 +64,44 @@ places-requires c κs = search needs
 returns-2 : tie.Need-returns-2 Inv-loop μ-loop
 returns-2 c = λ L e z. absurd (omega (arith, z))
 
-returns-3 : tie.Need-returns-3 Inv-loop μ-loop
-returns-3 c =
-    let f = c .before .before .before .before .before .before .before in
-    λ L e z. f .before .before .before .before .before .loop .inv L (f .taken .ensures .columns e) z
-
 behind-requires : tie.Need-behind-requires Inv-loop μ-loop
 behind-requires c κs = search needs
+
+returns-3 : tie.Need-returns-3 Inv-loop μ-loop
+returns-3 c =
+    let f = c .before .before .before .before .before .before .before .before in
+    λ L e z. f .before .before .before .before .before .loop .inv L (f .taken .ensures .columns e) z
 
 add-j : tie.Need-add-j Inv-loop μ-loop
 add-j c =
     let t = c .before .before .before .before .before .before .before .before .before .before .before .before in
-    omega (arith, t .loop-test .taken, t .before .before .before .before .pre .1)
+    omega (arith, t .loop-test .taken, t .before .before .before .before .before .pre .1)
 
 loop-less : tie.Need-loop-less Inv-loop μ-loop
 loop-less c = search needs
 
 loop-again : tie.Need-loop-again Inv-loop μ-loop
 loop-again c =
+    let b = c .before .before .before .before in
     let p = c .before .before .before .before .before in
     let f = p .before .before .before in
     let r = f .before .before in
     let l = r .before .before .before .loop in
-    let s = r .before .before .before .before .before .before in
+    let s = r .before .before .before .before .before .before .before in
     let a = s .args in
     let xs = a .store .now in
     let n = getD xs (160 + l .j * 128) 0 in
-    let ids = goes (a .way .low) (a .most) (a .way .top) (f .taken .result) (s .pre .2) (c .before .if3 .left) in
+    let ids = goes (a .way .low) (a .most) (a .way .top) (f .taken .result) (s .pre .2) (c .if3 .left) in
     λ L e z.
-    let none : l .rest ≡ 0 = omega (arith, z, or-l (l .rest) (c .behind .result)) in
-    let zero : c .behind .result ≡ 0 = omega (arith, z, or-r (l .rest) (c .behind .result)) in
+    let none : l .rest ≡ 0 = omega (arith, z, or-l (l .rest) (b .behind .result)) in
+    let zero : b .behind .result ≡ 0 = omega (arith, z, or-r (l .rest) (b .behind .result)) in
     let held : (k : ℕ) → k < n - fewOf n → entryScan (a .most) (a .full) xs (160 + l .j * 128 + 1 + k * 5) ≡ true =
     λ k h. used (a .way) (a .most) (a .full) xs (160 + l .j * 128 + 1 + k * 5) L (f .taken .ensures .places (a .most) (a .way .top) (L .2) (L .3) e ids k h)
     in
     let few = rw (p .before .before .few .ensures .0) at (sym (p .before .places .ensures) ∙ not-false _ (p .if2 .left)) in
     let fine =
     side-fine (r .room-of .result) (a .most) (a .full) xs (160 + l .j * 128) (f .before .if1 .left) held few
-    (sym (c .behind .ensures) ∙ eq-eqb (c .behind .result) 0 zero)
+    (sym (b .behind .ensures) ∙ eq-eqb (b .behind .result) 0 zero)
     in
     side-more (λ (i : ℕ). sideScan (roomOf (a .marks) (i / 2)) (a .most) (a .full) xs (160 + i * 128) ≡ true) (a .from) (l .j)
     (l .inv L (f .taken .ensures .columns e) none) (rw (r .room-of .ensures .0) at fine)
@@ -111,6 +115,7 @@ sweep-spec =
     (tie.spec
     Inv-loop
     μ-loop
+    no-columns-requires
     sub-span
     loop-holds
     mul-at
@@ -125,8 +130,8 @@ sweep-spec =
     few-requires
     places-requires
     returns-2
-    returns-3
     behind-requires
+    returns-3
     add-j
     loop-less
     loop-again
