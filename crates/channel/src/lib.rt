@@ -2,29 +2,17 @@
 // a snapshot taken or refused, and a message that could not be read changes nothing.
 use heading::Heading;
 use message::Reading;
-use message::Refusal;
 use message::Verdict;
 use store::Fed;
 ghost use mathlib.Core.Path.{_≡_};
 ghost use Prim.Native.Nat.{_*_, _≤_};
 ghost use lib.ListN.{length};
 ghost use Rattle.cells.specs.Runs.{updateSize, updatesIn};
-ghost use Rattle.message.specs.Message.{said, answerOf};
+ghost use Rattle.message.specs.Message.{said};
 ghost use Rattle.store.specs.Layout.{storeSize};
 ghost use Rattle.store.specs.Meaning.{st};
-ghost use Rattle.store.specs.Canon.{Formed, Canon};
-ghost use Rattle.store.specs.Answers.{fed};
-ghost use Rattle.taking.specs.Replays.{snapS};
+ghost use Rattle.store.specs.Canon.{Canon};
 ghost use Rattle.channel.specs.Feeds.{Aims, Feeds};
-
-// Frame.
-const BAD_FRAME: u64 = 11;
-// Checksum.
-const BAD_SUM: u64 = 12;
-// Type.
-const BAD_TYPE: u64 = 13;
-// Any breach under Fields.
-const BAD_FIELDS: u64 = 14;
 
 // The first `count` entries of a run get the index of their instrument for the SecurityID.
 fn aim(store: &[u64], h: Heading, run: &mut [u64], count: usize)
@@ -41,36 +29,6 @@ fn aim(store: &[u64], h: Heading, run: &mut [u64], count: usize)
     }
 }
 
-// The answer number of a message that is not read.
-fn answer_of(why: Refusal) -> u64
-    ensures { λ r. ⌜ r ≡ answerOf why ⌝ }
-{
-    match why {
-        Refusal::BadFrame => BAD_FRAME,
-        Refusal::BadSum => BAD_SUM,
-        Refusal::BadType => BAD_TYPE,
-        Refusal::BadFields => BAD_FIELDS,
-    }
-}
-
-// A message that is not read leaves the board as it was.
-fn unread(h: Heading, why: Refusal) -> Fed
-    ensures { λ f. ⌜ (f .head ≡ h) × (f .answer ≡ answerOf why) ⌝ }
-{
-    Fed {
-        head: h,
-        answer: answer_of(why),
-    }
-}
-
-// A snapshot: its 34 is not compared with H, and its 52 dates nothing.
-fn snapshot(store: &mut [u64], h: Heading, r: Reading, run: &[u64]) -> Fed
-    requires { ⌜ Formed (st h (now store)) × (r .count * updateSize ≤ length (now run)) ⌝ }
-    ensures { λ f. ⌜ fed (f .answer) (st (f .head) (now (store .exit))) ≡ snapS (r .id) (r .last) (updatesIn (now (run .entry)) (r .count)) (st h (now (store .entry))) ⌝ }
-{
-    taking::snapshot(store, h, r.id, r.last, run, r.count)
-}
-
 // The message that a reading and the entries in a run say, on the board that the heading and the store are. The entries are
 // aimed where they stand.
 pub fn feed_read(store: &mut [u64], h: Heading, r: Reading, run: &mut [u64]) -> Fed
@@ -83,7 +41,7 @@ pub fn feed_read(store: &mut [u64], h: Heading, r: Reading, run: &mut [u64]) -> 
     let v = r.verdict;
     match v {
         Verdict::Numbered => count::number(store, h, r.number, r.heard, run, count),
-        Verdict::Snapshot => snapshot(store, h, r, run),
-        Verdict::Refused(why) => unread(h, why),
+        Verdict::Snapshot => kept::snapshot(store, h, r, run),
+        Verdict::Refused(why) => kept::unread(h, why),
     }
 }

@@ -12,13 +12,15 @@ use Rattle.moment.specs.Moments.{dateText, clockText, timeText, momentText}
 use Rattle.orderid.specs.OrderIds.{isId, wordText, idText, top}
 use Rattle.frame.specs.Bytes.{fieldBytes, bytesOf}
 use Rattle.frame.specs.Frames.{framed}
+use Rattle.book.specs.Ids.{mostId}
+use Rattle.message.specs.Message.{mostNumber}
 use Rattle.book.specs.Canonical.{All}
 use Rattle.book.specs.Rules.{Lists, empty}
 use Rattle.book.specs.declared.Entry.{Entry}
 use Rattle.board.specs.Ranges.{entryFine}
 use Rattle.board.specs.Sound.{SoundSide}
 use Rattle.writer.specs.Snapshot.{Letter, sideFields, snapshotFields, snapshotBytes}
-use Rattle.roundtrip.specs.ReadBack.{InRange}
+use Rattle.roundtrip.specs.ReadBack.{InRange, BothReached}
 
 -- ---- an empty book, and every number one digit
 abbrev short : Letter
@@ -69,7 +71,7 @@ wide-fine = refl
 twenty : SoundSide 0 (replicate 20 wide)
 twenty = record { room = omega arith; entries = alike 20 wide wide-fine }
 
-pub long-in : InRange 0 long 999999999999999999 4294967295 full
+pub long-in : InRange 0 long mostId mostNumber full
 unfolding isId
 long-in =
     record {
@@ -86,6 +88,13 @@ long-in =
       offers = twenty;
     }
 
-pub most : length (snapshotBytes 0 long 999999999999999999 4294967295 full) ≡ 4267
+pub most : length (snapshotBytes 0 long mostId mostNumber full) ≡ 4267
 unfolding snapshotBytes snapshotFields sideFields framed bytesOf fieldBytes decimal widthOf widthTo fixed priceText amountText fractionText decimals idText wordText momentText dateText timeText clockText
 most = refl
+
+pub both-reached : BothReached
+both-reached =
+    record {
+      least = record { depth = 0; letter = short; who = 1; last = 0; book = empty; fine = short-in; bytes = least };
+      most = record { depth = 0; letter = long; who = mostId; last = mostNumber; book = full; fine = long-in; bytes = most };
+    }

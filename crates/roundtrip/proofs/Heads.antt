@@ -21,6 +21,7 @@ use Rattle.writer.specs.Snapshot.{Letter}
 use Rattle.roundtrip.specs.ReadBack.{InRange}
 use Rattle.roundtrip.proofs.Entries.{number-back}
 use Rattle.roundtrip.proofs.Groups.{group, entries, group-parts, group-begins, group-count, group-tidy}
+use Rattle.book.specs.Ids.{mostId}
 
 -- the fields from 49 to 268
 abbrev pub afterType : Letter → ℕ → ℕ → ℕ → List Field
@@ -54,7 +55,7 @@ module _ (depth : ℕ) (l : Letter) (who H : ℕ) (b : Lists) (r : InRange depth
       rw (
         number-back 10 1 4294967295 (l .k) (omega arith) (omega arith) (omega (arith, r .k-high, r .m-high)) (r .k-low) (omega (arith, r .k-high, r .m-high)),
         moment-back (l .time) (r .time),
-        number-back 18 1 999999999999999999 who (omega arith) (omega arith) (omega (arith, r .id-high)) (r .id-low) (r .id-high),
+        number-back 18 1 mostId who (omega arith) (omega arith) (omega (arith, r .id-high)) (r .id-low) (r .id-high),
         number-back 10 0 4294967295 H (omega arith) (omega arith) (omega (arith, r .last)) (omega arith) (r .last),
         number-back 10 1 4294967295 (l .m) (omega arith) (omega arith) (omega (arith, r .m-high)) (omega (arith, r .k-low, r .k-high)) (omega (arith, r .m-high)),
       )

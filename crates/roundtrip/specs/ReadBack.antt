@@ -6,10 +6,11 @@ use Prim.Native.Nat.{ℕ, _+_, _≤_, _<_}
 use lib.ListN.{length}
 use Rattle.moment.specs.Moments.{moments}
 use Rattle.orderid.specs.OrderIds.{isId}
+use Rattle.book.specs.Ids.{mostId}
 use Rattle.book.specs.Rules.{Lists}
 use Rattle.book.specs.declared.Entry.{Entry}
 use Rattle.book.specs.declared.Update.{Update}
-use Rattle.message.specs.Message.{snapshot}
+use Rattle.message.specs.Message.{mostNumber, snapshot}
 use Rattle.board.specs.Sound.{SoundSide}
 use Rattle.board.specs.Snapshot.{shown}
 use Rattle.fields.specs.Messages.{messageIn}
@@ -25,8 +26,8 @@ pub record InRange (depth : ℕ) (l : Letter) (who H : ℕ) (b : Lists) : Type 0
   pub m-high : l .m ≤ 16
   pub time : l .time < moments
   pub id-low : 1 ≤ who
-  pub id-high : who ≤ 999999999999999999
-  pub last : H ≤ 4294967295
+  pub id-high : who ≤ mostId
+  pub last : H ≤ mostNumber
   pub bids : SoundSide depth (b .bids)
   pub offers : SoundSide depth (b .offers)
 
@@ -47,6 +48,27 @@ pub record ReadBack (depth : ℕ) (l : Letter) (who H : ℕ) (b : Lists) : Type 
   pub book : shown (newOf who b) ≡ b
 
 -- Length is 104 to 4,267 bytes.
+abbrev pub leastBytes : ℕ
+leastBytes = 104
+
+abbrev pub mostBytes : ℕ
+mostBytes = 4267
+
 pub record Sized (msg : List ℕ) : Type 0 where
-  pub least : 104 ≤ length msg
-  pub most : length msg ≤ 4267
+  pub least : leastBytes ≤ length msg
+  pub most : length msg ≤ mostBytes
+
+-- What the writer takes comes to n bytes somewhere.
+pub record Reached (n : ℕ) : Type 0 where
+  pub depth : ℕ
+  pub letter : Letter
+  pub who : ℕ
+  pub last : ℕ
+  pub book : Lists
+  pub fine : InRange depth letter who last book
+  pub bytes : length (snapshotBytes depth letter who last book) ≡ n
+
+-- Both bounds are reached.
+pub record BothReached : Type 0 where
+  pub least : Reached leastBytes
+  pub most : Reached mostBytes
