@@ -79,7 +79,7 @@ unfolding changesOf messageFine
 x-fine depth body =
     let v = lookup (upTo 268 body) in
     needed (messageFine depth) (tidy namedTags headX (upTo 268 body)) _
-    (λ _. bind (within 1 mostNumber) (messageFine depth) (seqAt v) _ (whole-okay 34 10 1 4294967295 v)
+    (λ _. bind (within 1 mostNumber) (messageFine depth) (seqAt v) _ (whole-okay 34 10 1 mostNumber v)
     (λ n hn. bind momentFine (messageFine depth) (heardAt v) _ (heard-okay v)
     (λ at ha. bind (λ es. leb (length es) 64) (messageFine depth) (groupOf 279 entryX body) _ (group-few 279 entryX body)
     (λ es he. bind (fits (changeFine depth)) (messageFine depth) (each (entryInX depth) es) _ (each-fits (changeFine depth) (entryInX depth) (x-okay depth) es he)
@@ -89,11 +89,11 @@ x-fine depth body =
 head-fine : (v : Values) → okay headFine (headOf v) ≡ true
 unfolding headOf headFine
 head-fine v =
-    bind (within 1 mostNumber) headFine (seqAt v) _ (whole-okay 34 10 1 4294967295 v)
+    bind (within 1 mostNumber) headFine (seqAt v) _ (whole-okay 34 10 1 mostNumber v)
     (λ n hn. bind momentFine headFine (heardAt v) _ (heard-okay v)
     (λ at ha. bind idFine headFine (instrumentAt v) _ (instrument-okay v)
-    (λ id hi. bind (within 0 mostNumber) headFine (lastAt v) _ (whole-okay 369 10 0 4294967295 v)
-    (λ last hl. bind (within 1 mostNumber) headFine (loopsAt v) _ (whole-okay 911 10 1 4294967295 v)
+    (λ id hi. bind (within 0 mostNumber) headFine (lastAt v) _ (whole-okay 369 10 0 mostNumber v)
+    (λ last hl. bind (within 1 mostNumber) headFine (loopsAt v) _ (whole-okay 911 10 1 mostNumber v)
     (λ loops ho. rw (hn, ha, hi, both (leb 0 last) (leb last mostNumber) hl .1, ho))))))
 
 w-fine : (depth : ℕ) (body : List Field) → okay (messageFine depth) (snapshotOf depth body) ≡ true
@@ -112,7 +112,7 @@ unfolding otherOf messageFine
 o-fine depth body =
     let v = lookup (upTo 268 body) in
     needed (messageFine depth) (tidy otherTags headX (upTo 268 body) && tidy otherTags [] (past 268 body)) _
-    (λ _. bind (within 1 mostNumber) (messageFine depth) (seqAt v) _ (whole-okay 34 10 1 4294967295 v)
+    (λ _. bind (within 1 mostNumber) (messageFine depth) (seqAt v) _ (whole-okay 34 10 1 mostNumber v)
     (λ n hn. bind momentFine (messageFine depth) (heardAt v) _ (heard-okay v) (λ at ha. rw (hn, ha))))
 
 -- ---- the whole message

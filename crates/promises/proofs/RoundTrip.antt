@@ -34,6 +34,7 @@ use Rattle.roundtrip.proofs.Lengths.{page-sized}
 use Rattle.roundtrip.proofs.RoundTrip.{read-back}
 use Rattle.roundtrip.proofs.TakenBack.{taken-back}
 use Rattle.promises.specs.RoundTrip.{SameBook, RoundTrip}
+use Rattle.book.specs.Ids.{mostId}
 
 -- ---- a page that is a message
 module _ (id : ℕ) (sender target : List ℕ) (k m : ℕ) (time xs : List ℕ) where
@@ -62,7 +63,7 @@ module _ (id : ℕ) (sender target : List ℕ) (k m : ℕ) (time xs : List ℕ) 
       let d = both (isId target) (leb 1 k && (leb k m && leb m mostLoop)) (c .1) in
       let e = both (leb 1 k) (leb k m && leb m mostLoop) (d .1) in
       let f = both (leb k m) (leb m mostLoop) (e .1) in
-      let w = both (leb 1 id) (leb id 999999999999999999) (a .0) in
+      let w = both (leb 1 id) (leb id mostId) (a .0) in
       record {
         sender = c .0;
         target = d .0;
@@ -71,7 +72,7 @@ module _ (id : ℕ) (sender target : List ℕ) (k m : ℕ) (time xs : List ℕ) 
         m-high = leb-true m mostLoop (f .1);
         time = moment-lt time (p .read);
         id-low = leb-true 1 id (w .0);
-        id-high = leb-true id 999999999999999999 (w .1);
+        id-high = leb-true id mostId (w .1);
         last = s .last;
         bids = x .bids;
         offers = x .offers;

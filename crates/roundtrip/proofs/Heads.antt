@@ -12,7 +12,7 @@ use Rattle.moment.specs.Moments.{momentText}
 use Rattle.moment.proofs.Back.{moment-back}
 use Rattle.frame.specs.Fields.{Field, field}
 use Rattle.book.specs.Rules.{Lists}
-use Rattle.message.specs.Message.{Head}
+use Rattle.message.specs.Message.{Head, mostNumber}
 use Rattle.tags.specs.Tags.{namedTags, headW, entryW, has, stands, tidy, upTo, past, lookup}
 use Rattle.entries.specs.Values.{bvmf, instrumentOf}
 use Rattle.group.specs.Groups.{groupOf}
@@ -53,11 +53,11 @@ module _ (depth : ℕ) (l : Letter) (who H : ℕ) (b : Lists) (r : InRange depth
   unfolding headOf instrumentOf bvmf lookup upTo
   head-back =
       rw (
-        number-back 10 1 4294967295 (l .k) (omega arith) (omega arith) (omega (arith, r .k-high, r .m-high)) (r .k-low) (omega (arith, r .k-high, r .m-high)),
+        number-back 10 1 mostNumber (l .k) (omega arith) (omega arith) (omega (arith, r .k-high, r .m-high)) (r .k-low) (omega (arith, r .k-high, r .m-high)),
         moment-back (l .time) (r .time),
         number-back 18 1 mostId who (omega arith) (omega arith) (omega (arith, r .id-high)) (r .id-low) (r .id-high),
-        number-back 10 0 4294967295 H (omega arith) (omega arith) (omega (arith, r .last)) (omega arith) (r .last),
-        number-back 10 1 4294967295 (l .m) (omega arith) (omega arith) (omega (arith, r .m-high)) (omega (arith, r .k-low, r .k-high)) (omega (arith, r .m-high)),
+        number-back 10 0 mostNumber H (omega arith) (omega arith) (omega (arith, r .last)) (omega arith) (r .last),
+        number-back 10 1 mostNumber (l .m) (omega arith) (omega arith) (omega (arith, r .m-high)) (omega (arith, r .k-low, r .k-high)) (omega (arith, r .m-high)),
       )
 
   group-past : past 268 body ≡ group depth who b

@@ -58,7 +58,7 @@ four-spans xs at low a b c d ea eb ec ed = go
 
 -- columns that fit, as facts and back
 pub record Fits (c : Columns) : Type 0 where
-  pub price : c .price ≤ 19999999999999998
+  pub price : c .price ≤ heldTop
   pub size : c .size < 999999999999
   pub moment : c .moment < 320829012000000
   pub even : c .even ≡ 0
@@ -88,7 +88,7 @@ pub facts-fit : (c : Columns) → Fits c → fits c ≡ true
 unfolding fits
 facts-fit c f =
     rw (
-      le-leb (c .price) 19999999999999998 (f .price),
+      le-leb (c .price) heldTop (f .price),
       lt-ltb (c .size) 999999999999 (f .size),
       lt-ltb (c .moment) 320829012000000 (f .moment),
       eq-eqb (c .even) 0 (f .even),
