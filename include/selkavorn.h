@@ -56,6 +56,7 @@ extern "C" {
 #define SELKAVORN_STORE_NUMBERS 7168     /* numbers that a store has at least */
 #define SELKAVORN_QUOTE_NUMBERS 17       /* numbers that a quote writes */
 #define SELKAVORN_STATE_NUMBERS 4        /* numbers that a state writes */
+#define SELKAVORN_BOARD_NUMBERS 5        /* numbers that a summary of the board writes */
 #define SELKAVORN_MOST_INSTRUMENTS 16    /* instruments that a store follows at most */
 #define SELKAVORN_MOST_PLACES 20         /* places that a side holds at most */
 #define SELKAVORN_LONGEST_MESSAGE 8192   /* bytes of the longest message that is read */
@@ -136,6 +137,16 @@ enum selkavorn_reason {
     SELKAVORN_REASON_NO_ROOM = 2 /* a new entry came to a side of 20 */
 };
 
+/* The numbers of a summary of the board, by their places in the output. */
+enum selkavorn_board_place {
+    SELKAVORN_BOARD_NUMBER = 0,     /* H */
+    SELKAVORN_BOARD_HEARD_DATE = 1, /* the date of tag 52 of message H, YYYYMMDD; 0 while H is 0 */
+    SELKAVORN_BOARD_HEARD_TIME = 2, /* its time of day, HHMMSSmmm; 0 while H is 0 */
+    SELKAVORN_BOARD_COMPLETE = 3,   /* B */
+    SELKAVORN_BOARD_MARKS = 4       /* bit i, from 0, is 1 if the instrument at place i of the
+                                     * SecurityIDs of the opening is Waiting */
+};
+
 /* Opens a store: nothing counted, every instrument Waiting with an empty book.
  *   depth       of enum selkavorn_depth
  *   ids, ids_n  the SecurityIDs to follow: 1 to 16, no two alike
@@ -184,6 +195,12 @@ uint64_t selkavorn_write(const uint64_t *store, size_t store_n, uint64_t id, con
  * never those beyond. The store is only read. It is no quote: it has no date. */
 uint64_t selkavorn_state(const uint64_t *store, size_t store_n, uint64_t id, uint64_t *out,
                          size_t out_n);
+
+/* Says what a store has counted, and which of its instruments are Waiting.
+ *   out, out_n  room for at least SELKAVORN_BOARD_NUMBERS numbers (shorter is 18)
+ * Answers 0; 17; 18. Writes the first SELKAVORN_BOARD_NUMBERS numbers of out on 0 alone, and never
+ * those beyond. The store is only read. */
+uint64_t selkavorn_board(const uint64_t *store, size_t store_n, uint64_t *out, size_t out_n);
 
 #ifdef __cplusplus
 }
