@@ -1,5 +1,5 @@
 -- The five numbers as the store has them, and the answers test by test.
-use mathlib.Core.Path.{_≡_, refl}
+use mathlib.Core.Path.{_≡_, refl, sym, ap, _∙_}
 use mathlib.Core.Bool.{Bool, true, false, cond}
 use mathlib.Core.List.{List, [], _∷_, _++_}
 use Prim.Native.Nat.{ℕ, _≤_, _<_}
@@ -33,8 +33,11 @@ pub put-is : (l xs : List ℕ) → sound xs ≡ true
     ≡ sets l 0 (summaryWords (boardAt xs))
 unfolding boardOf
 put-is l xs s =
-    rw (marks-back (getD xs atMarks 0) xs _ (formed xs s .marks))
-    (parts l (getD xs atNumber 0) (getD xs atHeard 0) (getD xs atBase 0) (getD xs atMarks 0))
+    let H = getD xs atNumber 0 in
+    let heard = getD xs atHeard 0 in
+    let B = getD xs atBase 0 in
+    let back = marks-back (getD xs atMarks 0) xs _ (formed xs s .marks) in
+    parts l H heard B (getD xs atMarks 0) ∙ ap (λ (m : ℕ). sets l 0 (H ∷ heardWords H heard ++ (B ∷ m ∷ []))) (sym back)
 
 -- the heard moment is one, where anything is heard
 pub heard : (xs : List ℕ) → sound xs ≡ true → heardFine (getD xs atNumber 0) (getD xs atHeard 0) ≡ true
