@@ -25,14 +25,12 @@ static void add_instruments(struct request *request, const struct piece *message
             add_instrument(request, value_number(id));
 }
 
-/* A board tells which messages are well-formed, whatever it follows. */
-static void take_piece(struct request *request, uint64_t *store, struct recording *recording,
+static void take_piece(struct request *request, struct recording *recording,
                        const struct piece *piece)
 {
     if (piece->kind == PIECE_PASSED)
         return;
-    uint64_t answer = SELKAVORN_ANSWER(selkavorn_feed(store, SELKAVORN_STORE_NUMBERS, piece->bytes,
-                                                      (size_t)piece->length));
+    uint64_t answer = judge(request, piece);
     if (is_well_formed(answer))
         add_instruments(request, piece);
     if (may_hold_another(answer))
@@ -42,16 +40,13 @@ static void take_piece(struct request *request, uint64_t *store, struct recordin
 enum status find_instruments(struct request *request, int file)
 {
     static struct recording recording;
-    static uint64_t store[SELKAVORN_STORE_NUMBERS];
-    static const uint64_t any = 1;
     struct progress progress;
     struct piece piece;
-    selkavorn_open(store, SELKAVORN_STORE_NUMBERS, request->depth, &any, 1);
     progress_begin(&progress, file, false);
     recording_begin(&recording, file);
     for (recording_next(&recording, &piece); piece.kind != PIECE_END;
          recording_next(&recording, &piece)) {
-        take_piece(request, store, &recording, &piece);
+        take_piece(request, &recording, &piece);
         progress_at(&progress, piece.place);
     }
     progress_end(&progress);

@@ -14,8 +14,10 @@ static const char *now_of(const struct board *board, const struct request *reque
     return request->now != NULL ? request->now : board->latest;
 }
 
-static void print_heading(const struct board *board, const struct request *request)
+static void print_heading(const struct board *board, const struct request *request,
+                          const struct heading *heading)
 {
+    char heard[MOMENT_TEXT];
     if (request->now != NULL)
         printf("\nQuotes at %s, the moment given by --now", request->now);
     else if (board->latest[0] != '\0')
@@ -24,8 +26,10 @@ static void print_heading(const struct board *board, const struct request *reque
     else
         printf("\nQuotes: the recording has no time in it, and --now was not given");
     printf("; limit %" PRIu64 " s\n", request->limit_s);
-    if (board->number > 0)
-        printf("Last counted: number %" PRIu64 ", sent %s\n", board->number, board->heard);
+    if (heading->number > 0) {
+        moment_words(heading->date, heading->time, heard);
+        printf("Last counted: number %" PRIu64 ", sent %s\n", heading->number, heard);
+    }
     printf(ROW, "instrument", "side", "price", "size", "heard", "age", "number",
            request->depth == SELKAVORN_ORDER_DEPTH ? "order" : "orders", "entered");
 }
@@ -54,17 +58,19 @@ static void print_side(const struct request *request, const char *id, const char
 }
 
 /* Prints why there is no quote. */
-static void print_refusal(const struct board *board, const char *id, uint64_t answer)
+static void print_refusal(const struct heading *heading, const char *id, uint64_t answer)
 {
+    char heard[MOMENT_TEXT];
+    moment_words(heading->date, heading->time, heard);
     printf("%-12s  %s", id, answer_words(answer));
     if (answer == SELKAVORN_AGE_BELOW || answer == SELKAVORN_AGE_ABOVE)
-        printf(" (heard %s as number %" PRIu64 ")\n", board->heard, board->number);
+        printf(" (heard %s as number %" PRIu64 ")\n", heard, heading->number);
     else
         printf(" (answer %" PRIu64 ")\n", answer);
 }
 
 static void print_quote(const struct board *board, const struct request *request,
-                        uint64_t instrument)
+                        const struct heading *heading, uint64_t instrument)
 {
     uint64_t state[SELKAVORN_STATE_NUMBERS] = {0}, quote[SELKAVORN_QUOTE_NUMBERS] = {0};
     const char *now = now_of(board, request);
@@ -81,16 +87,22 @@ static void print_quote(const struct board *board, const struct request *request
                                  (const uint8_t *)now, strlen(now), request->limit_s, quote,
                                  SELKAVORN_QUOTE_NUMBERS);
     if (answer != SELKAVORN_DONE) {
-        print_refusal(board, id, answer);
+        print_refusal(heading, id, answer);
         return;
     }
     print_side(request, id, "bid", quote, quote + SELKAVORN_QUOTE_BID, now);
     print_side(request, id, "offer", quote, quote + SELKAVORN_QUOTE_OFFER, now);
 }
 
-void print_quotes(const struct board *board, const struct request *request)
+enum status print_quotes(const struct board *board, const struct request *request)
 {
-    print_heading(board, request);
+    struct heading heading = board_heading(board);
+    if (board->lost_reset) {
+        puts("\nNo quote is given: a sequence reset was lost, and the board was not opened afresh.");
+        return STATUS_LOST_RESET;
+    }
+    print_heading(board, request, &heading);
     for (size_t i = 0; i < request->ids_n; i++)
-        print_quote(board, request, request->ids[i]);
+        print_quote(board, request, &heading, request->ids[i]);
+    return STATUS_GOOD;
 }
