@@ -17,6 +17,7 @@ struct board {
     bool has_opened_at;       /* a sequence reset whose moment is known opened it afresh */
     int64_t opened_at_ms;     /* that moment */
     bool lost_reset;          /* a sequence reset was lost, and it was not opened afresh since */
+    char names[SELKAVORN_MOST_INSTRUMENTS][NAME_TEXT]; /* of the instruments; "" where unknown */
 };
 
 /* What a board has counted. */

@@ -6,6 +6,7 @@
 #include <string.h>
 
 #include "message.h"
+#include "names.h"
 #include "progress.h"
 #include "recording.h"
 #include "resets.h"
@@ -26,7 +27,7 @@ struct totals {
 struct replay {
     struct board *board;
     const struct request *request;
-    struct recording *recording;
+    struct streams *streams;
     struct totals totals;
 };
 
@@ -40,6 +41,14 @@ static void print_missed(uint64_t first, uint64_t last)
     printf(" missed");
 }
 
+/* Prints the place of a piece, behind an S where it is in the recording of the snapshot stream. */
+static void print_place(const struct piece *piece)
+{
+    char place[NUMBER_TEXT];
+    snprintf(place, sizeof place, "%s%" PRIu64, piece->of_snapshots ? "S" : "", piece->place);
+    printf("%10s", place);
+}
+
 /* Prints a message's place, type and number. */
 static void print_label(const struct piece *message)
 {
@@ -51,7 +60,8 @@ static void print_label(const struct piece *message)
                  value_words(message_first(message, "369"), second));
     else
         snprintf(number, sizeof number, "34=%s", value_words(message_first(message, "34"), first));
-    printf("%10" PRIu64 "  %-4s  %-24s  ", message->place, type, number);
+    print_place(message);
+    printf("  %-4s  %-24s  ", type, number);
 }
 
 /* Prints the line of a message. `before` is what the board had counted before it. */
@@ -61,7 +71,7 @@ static void print_message(const struct board *board, const struct piece *message
     uint64_t answer = SELKAVORN_ANSWER(answered);
     print_label(message);
     printf("%7" PRIu64 "  %2" PRIu64 " %s", SELKAVORN_WAITING_COUNT(answered), answer,
-           answer_words(answer));
+           selkavorn_answer_text(answer));
     if (answer == SELKAVORN_GAP)
         print_missed(before->number + 1, value_number(message_first(message, "34")) - 1);
     if (is_reset(message, answer))
@@ -72,13 +82,15 @@ static void print_message(const struct board *board, const struct piece *message
     putchar('\n');
 }
 
-/* Remembers the latest time of the messages that were well-formed. */
-static void remember(struct board *board, const struct piece *message, uint64_t answer)
+/* Remembers the latest time and the names of the messages that were well-formed. */
+static void remember(struct replay *replay, const struct piece *message, uint64_t answer)
 {
     char time[MOMENT_TEXT] = "";
+    struct board *board = replay->board;
     struct value sent = message_first(message, "52");
-    if (!is_well_formed(answer) || sent.length >= MOMENT_TEXT)
+    if (!is_well_formed(answer) || !value_is_moment(sent))
         return;
+    take_names(board, replay->request, message);
     memcpy(time, sent.bytes, sent.length);
     if (board->latest[0] == '\0' || text_ms(time) > text_ms(board->latest))
         strcpy(board->latest, time);
@@ -108,7 +120,7 @@ static uint64_t feed(struct replay *replay, const struct piece *message)
     uint64_t answered = selkavorn_feed(board->store, SELKAVORN_STORE_NUMBERS, message->bytes,
                                        (size_t)message->length);
     uint64_t answer = SELKAVORN_ANSWER(answered);
-    remember(board, message, answer);
+    remember(replay, message, answer);
     if (!replay->request->quote_only)
         print_message(board, message, answered, &before);
     if (is_reset(message, answer))
@@ -124,7 +136,7 @@ static uint64_t feed(struct replay *replay, const struct piece *message)
     return feed(replay, message); /* a fresh board finds nothing old */
 }
 
-/* A well-formed message of before the reset is not fed: its number would be counted as a new one. */
+/* A well-formed message of before the reset is not fed: its number would be taken for a new one. */
 static bool leave_out(struct replay *replay, const struct piece *message)
 {
     if (!is_of_before(replay->board, message) || !is_well_formed(judge(replay->request, message)))
@@ -147,24 +159,37 @@ static void print_passed(const struct piece *run)
         [PASSED_TOO_LONG] = "tag 9 says more than 8,192 bytes for a message",
         [PASSED_CUT_OFF] = "the recording ends before the message does",
     };
-    printf("%10" PRIu64 "  %" PRIu64 " bytes passed over: %s\n", run->place, run->length,
-           why[run->why]);
+    print_place(run);
+    printf("  %" PRIu64 " bytes passed over: %s\n", run->length, why[run->why]);
 }
 
-static void print_totals(const struct totals *totals)
+/* Says what was read. Where standard output is for a machine, only what a person must know is said,
+ * on standard error. */
+static void print_totals(const struct replay *replay)
 {
-    printf("Messages: %" PRIu64 ". Bytes passed over: %" PRIu64 ", in runs: %" PRIu64 ".\n",
-           totals->messages, totals->passed, totals->runs);
+    const struct totals *totals = &replay->totals;
+    bool is_table = replay->request->command == COMMAND_REPLAY &&
+                    replay->request->form == FORM_TABLE;
+    FILE *to = is_table ? stdout : stderr;
+    if (is_table)
+        printf("Messages: %" PRIu64 ". Bytes passed over: %" PRIu64 ", in runs: %" PRIu64 ".\n",
+               totals->messages, totals->passed, totals->runs);
+    if (is_table && replay->request->snapshots != NULL)
+        printf("Messages of the snapshot stream that are no snapshots, left out: %" PRIu64 ".\n",
+               replay->streams->left_out);
     if (totals->resets_passed > 0)
-        printf("Sequence resets passed over: %" PRIu64 ". If one was of the incremental stream, the "
-               "quotes are wrong.\n",
-               totals->resets_passed);
+        fprintf(to,
+                "Sequence resets passed over: %" PRIu64 ". If one was of the incremental stream, "
+                "the quotes are\nwrong.\n",
+                totals->resets_passed);
     if (totals->resets_lost > 0)
-        printf("Sequence resets lost: %" PRIu64 ". The board was opened afresh where that showed.\n",
-               totals->resets_lost);
+        fprintf(to,
+                "Sequence resets lost: %" PRIu64 ". The board was opened afresh where that "
+                "showed.\n",
+                totals->resets_lost);
     if (totals->of_before > 0)
-        printf("Messages sent before a sequence reset, not fed: %" PRIu64 ".\n",
-               totals->of_before);
+        fprintf(to, "Messages sent before a sequence reset, not fed: %" PRIu64 ".\n",
+                totals->of_before);
     fflush(stdout);
     if (totals->fields_refused > totals->well_formed)
         fprintf(stderr,
@@ -191,39 +216,30 @@ static void take_piece(struct replay *replay, const struct piece *piece)
     totals->fields_refused += answer == SELKAVORN_FIELDS;
     totals->well_formed += is_well_formed(answer) && message_names_instruments(piece);
     if (may_hold_another(answer))
-        recording_look_inside(replay->recording, piece);
+        streams_look_inside(replay->streams, piece);
 }
 
-enum status reading_status(const struct request *request, int failure)
+enum status replay(struct board *board, const struct request *request, struct files files)
 {
-    if (failure == 0)
-        return STATUS_GOOD;
-    fflush(stdout);
-    fprintf(stderr, "selkavorn: %s cannot be read: %s\n", request->path, strerror(failure));
-    return STATUS_FILE;
-}
-
-enum status replay(struct board *board, const struct request *request, int file)
-{
-    static struct recording recording;
-    struct replay replay = {.board = board, .request = request, .recording = &recording};
+    static struct streams streams;
+    struct replay replay = {.board = board, .request = request, .streams = &streams};
     struct progress progress;
     struct piece piece;
-    progress_begin(&progress, file, !request->quote_only);
+    progress_begin(&progress, files.recording, !request->quote_only);
     if (!request->quote_only)
         printf("%10s  %-4s  %-24s  %7s  %s\n", "byte", "type", "number", "Waiting", "answer");
-    recording_begin(&recording, file);
-    for (recording_next(&recording, &piece); piece.kind != PIECE_END;
-         recording_next(&recording, &piece)) {
+    streams_begin(&streams, request, files);
+    for (streams_next(&streams, &piece); piece.kind != PIECE_END; streams_next(&streams, &piece)) {
         take_piece(&replay, &piece);
-        progress_at(&progress, piece.place);
+        if (!piece.of_snapshots)
+            progress_at(&progress, piece.place);
     }
     progress_end(&progress);
-    print_totals(&replay.totals);
-    enum status status = reading_status(request, recording.failure);
+    print_totals(&replay);
+    enum status status = streams_status(&streams);
     if (status == STATUS_GOOD && replay.totals.messages == 0) {
         fprintf(stderr, "selkavorn: %s holds no message\n", request->path);
         status = STATUS_FILE;
     }
-    return status == STATUS_GOOD ? print_quotes(board, request) : status;
+    return status;
 }

@@ -1,20 +1,26 @@
-/* The replay of a recording on a fresh board, and the dated quotes at its end. */
+/* The replay of recordings on a fresh board, and what is asked for at its end. */
 #ifndef REPLAY_H
 #define REPLAY_H
 
 #include "board.h"
 #include "request.h"
+#include "streams.h"
 
-/* Says on standard error that the file cannot be read, if `failure` is an errno and not 0. */
-enum status reading_status(const struct request *request, int failure);
+/* Takes the instruments that the well-formed X and W messages of the recordings name, for a command
+ * line that names none. */
+enum status find_instruments(struct request *request, struct files files);
 
-/* Adds the instruments that the well-formed X and W messages of the recording name. */
-enum status find_instruments(struct request *request, int file);
+/* Feeds the recordings to the board, and says what came of each message if that is asked for. */
+enum status replay(struct board *board, const struct request *request, struct files files);
 
-/* Feeds the recording to the board and prints what is asked for. */
-enum status replay(struct board *board, const struct request *request, int file);
-
-/* Prints the quotes of all instruments, each with its date, or that none is given. */
+/* Prints the quotes of all instruments, each with its date. */
 enum status print_quotes(const struct board *board, const struct request *request);
+
+/* Lets the library judge what the command line says of the snapshot to write; ends where it is
+ * bad. */
+void check_writing(const struct request *request);
+
+/* Writes the snapshot that the request asks for to standard output. */
+enum status write_snapshot(const struct board *board, const struct request *request);
 
 #endif

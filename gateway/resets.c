@@ -1,4 +1,4 @@
-/* Sequence resets (35=4) of the incremental stream, those that are seen and those that were lost. */
+/* Sequence resets (35=4) of the incremental stream, seen ones and lost ones. */
 #include "resets.h"
 
 #include "message.h"
