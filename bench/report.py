@@ -5,7 +5,7 @@ import sys
 
 from results import DEPTHS, ENTRIES, QUICKFIX, Case, Results
 
-CALLS = ("open", "feed", "quote", "write", "state")
+CALLS = ("open", "feed", "quote", "write", "state", "board")
 STATES = ("none waiting", "one waiting")
 SCANS = Case("order", 0, 0)
 MOST_STACK = 24576  # bytes
@@ -98,7 +98,7 @@ def others(results):
         case = Case(depth, 0, 0)
         snapshot = f"feed, a snapshot of 40 entries, {results.bytes[case]:,} bytes"
         for what, meaning in (("open", "open, 16 instruments"), ("snapshot", snapshot), ("quote", "quote"),
-                              ("write", "write, 40 places"), ("state", "state")):
+                              ("write", "write, 40 places"), ("state", "state"), ("board", "board")):
             counted = results.instructions.get((case, what))
             rows.append([f"{depth} depth: {meaning}", number(results.ns(case, what)), number(counted)])
     for what, meaning in (("scan", "scan, order ids of 10 bytes"), ("scan_mixed", "scan, order ids of 5 and of 10 bytes")):
