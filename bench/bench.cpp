@@ -1,5 +1,6 @@
-// bench time DICTIONARY ROUNDS: the time of one call, the proved code beside QuickFIX on the same bytes in the same run.
+// bench time DICTIONARY ROUNDS: the time of one call, the proved code beside its peers on the same bytes in the same run.
 // bench count DICTIONARY [FEW]: the same calls once each, for callgrind to count their instructions; with FEW, of few cases.
+// bench agree: whether the plain reader in C answers what the proved code does; says how often each answer came.
 // `time` writes a table of tab-separated columns; a call of `count` is named in callgrind's own file by the same columns.
 #include <algorithm>
 #include <cstdio>
@@ -8,7 +9,10 @@
 #include <time.h>
 #include <valgrind/callgrind.h>
 
+#include "agree.hpp"
+#include "loop.h"
 #include "peer.hpp"
+#include "plain.h"
 #include "same.hpp"
 #include "selkavorn.h"
 #include "store.hpp"
@@ -20,6 +24,7 @@ constexpr int WARM_UP = 5; // rounds
 constexpr int ENTRIES_A_ROUND = 1024;
 constexpr int QUEUE = 256;         // entries that fill the queue
 constexpr int CALLS_A_ROUND = 256; // of a call that takes no stream
+constexpr int AGREED = 10000;      // messages that both readers are asked, a depth kind
 
 [[noreturn]] void fail(const std::string &what) {
     std::fprintf(stderr, "bench: %s\n", what.c_str());
@@ -32,6 +37,8 @@ uint64_t feed(Store &store, const std::string &message) {
     return selkavorn_feed(store.data(), store.size(), bytes(message), message.size());
 }
 
+uint64_t feed(plain_board &board, const std::string &message) { return plain_feed(&board, bytes(message), message.size()); }
+
 // A case: a depth kind, how many entries a message has, and how many instruments wait.
 struct Case {
     Depth depth;
@@ -39,10 +46,11 @@ struct Case {
     int waiting;
 };
 
-// What a case starts from: the stream, a store and a board whose books are full. Where one waits, the stream fills the queue.
+// What a case starts from: the stream, and a store and boards whose books are full. Where one waits, the stream fills the queue.
 struct Start {
     Stream stream;
     Store store;
+    plain_board plain;
     PeerBoard board;
 };
 
@@ -51,19 +59,32 @@ void open(Store &store, Depth depth, const Stream &stream) {
         fail("the store is not opened");
 }
 
-void take(Store &store, const std::string &snapshot) {
-    if (SELKAVORN_ANSWER(feed(store, snapshot)) != SELKAVORN_TAKEN) fail("a snapshot is not taken");
+plain_board opened(Depth depth, const Stream &stream) {
+    plain_board board;
+    plain_open(&board, static_cast<plain_depth>(depth), stream.ids.data(), stream.ids.size());
+    return board;
+}
+
+template <typename Keeper> bool takes(Keeper &keeper, const std::string &snapshot) {
+    return SELKAVORN_ANSWER(feed(keeper, snapshot)) == SELKAVORN_TAKEN;
+}
+
+template <typename Keeper> void take(Keeper &keeper, const std::string &snapshot) {
+    if (!takes(keeper, snapshot)) fail("a snapshot is not taken");
 }
 
 Start start(const Case &c, const FIX::DataDictionary &dictionary) {
     Start s;
     s.stream = make_stream(c.depth, (c.waiting ? QUEUE : ENTRIES_A_ROUND) / c.entries, c.entries);
     open(s.store, c.depth, s.stream);
+    s.plain = opened(c.depth, s.stream);
     for (int i = 0; i < INSTRUMENTS; i++) {
         s.board.books.push_back(PeerBook());
         s.board.books.back().id = s.stream.ids[i];
         if (!peer_apply(dictionary, s.stream.snapshots[i], s.board)) fail("QuickFIX refuses a snapshot");
-        if (i < INSTRUMENTS - c.waiting) take(s.store, s.stream.snapshots[i]);
+        if (i >= INSTRUMENTS - c.waiting) continue;
+        take(s.store, s.stream.snapshots[i]);
+        take(s.plain, s.stream.snapshots[i]);
     }
     return s;
 }
@@ -109,13 +130,21 @@ size_t mean_length(const std::vector<std::string> &messages) {
     return length / messages.size();
 }
 
-// A full book that waited is set by its snapshot, and the queue applied to it; then both sides must hold the same books.
-void check_books(const Case &c, const Start &s, Store store, const PeerBoard &board) {
-    for (int i = INSTRUMENTS - c.waiting; i < INSTRUMENTS; i++) take(store, s.stream.snapshots[i]);
-    std::string differs = difference(store, board, c.depth);
+void check_same(const Case &c, const Store &store, const std::string &peer, const SeenBoard &board) {
+    std::string differs = difference(store, board);
     if (differs.empty()) return;
-    fail("the two sides hold different books after messages of " + std::to_string(c.entries) + " entries at depth " +
-         std::to_string(c.depth) + ", " + std::to_string(c.waiting) + " waiting: instrument " + differs);
+    fail(peer + " holds other books after messages of " + std::to_string(c.entries) + " entries at depth " + std::to_string(c.depth) +
+         ", " + std::to_string(c.waiting) + " waiting: instrument " + differs);
+}
+
+// A full book that waited is set by its snapshot, and the queue applied to it; then all must hold the same books.
+void check_books(const Case &c, const Start &s, Store store, plain_board plain, const PeerBoard &board) {
+    for (int i = INSTRUMENTS - c.waiting; i < INSTRUMENTS; i++) {
+        take(store, s.stream.snapshots[i]);
+        take(plain, s.stream.snapshots[i]);
+    }
+    check_same(c, store, "QuickFIX's board", seen(board, c.depth));
+    check_same(c, store, "the plain board", seen(plain));
 }
 
 // Whether the scan finds the store sound: every call of the library scans it before all else, and a state that is given no room
@@ -124,13 +153,18 @@ bool scan(const uint64_t *store) {
     return selkavorn_state(store, SELKAVORN_STORE_NUMBERS, 1, nullptr, 0) == SELKAVORN_ARGUMENT;
 }
 
-// Feeding, the scan, and QuickFIX. Where none waits, all 640 places are used in the store that is scanned.
+// A loop over the numbers of a store that has some. The call is not known to the compiler, so that it is made each time.
+template <uint64_t (*LOOP)(const uint64_t *)> bool loop(const uint64_t *store) { return LOOP(store) != 0; }
+
+// Feeding, the scan and the loop that is its floor, the plain reader, and QuickFIX. Where none waits, all 640 places are used in
+// the store that is scanned.
 void measure_case(const Case &c, const FIX::DataDictionary &dictionary, const Measure &measure) {
     const Start s = start(c, dictionary);
     const std::vector<std::string> &xs = s.stream.changes;
     const size_t length = mean_length(xs);
     const uint64_t waiting = 256u * static_cast<unsigned>(c.waiting);
     Store store, scanned = s.store;
+    plain_board plain;
     PeerBoard board;
     if (c.waiting)
         for (const std::string &x : xs) feed(scanned, x);
@@ -140,6 +174,9 @@ void measure_case(const Case &c, const FIX::DataDictionary &dictionary, const Me
         {columns(c, length, "feed"), xs.size(), [&] { store = s.store; },
          for_each(xs, [&](const std::string &x) { return feed(store, x) == SELKAVORN_DONE + waiting; }), {}},
         {columns(c, length, "scan"), CALLS_A_ROUND, nothing, again([numbers] { return scan(numbers); }), {}},
+        {columns(c, length, "loop"), CALLS_A_ROUND, nothing, again([numbers] { return loop<loop_wide>(numbers); }), {}},
+        {columns(c, length, "plain"), xs.size(), [&] { plain = s.plain; },
+         for_each(xs, [&](const std::string &x) { return feed(plain, x) == SELKAVORN_DONE + waiting; }), {}},
         {columns(c, length, "parse"), xs.size(), nothing,
          for_each(xs, [&](const std::string &x) { return peer_parse(dictionary, x); }), {}},
         {columns(c, length, "validate"), xs.size(), nothing,
@@ -148,7 +185,7 @@ void measure_case(const Case &c, const FIX::DataDictionary &dictionary, const Me
          for_each(xs, [&](const std::string &x) { return peer_apply(dictionary, x, board); }), {}},
     };
     measure(all);
-    check_books(c, s, store, board);
+    check_books(c, s, store, plain, board);
 }
 
 bool quote(const Store &store, uint64_t id) {
@@ -170,6 +207,11 @@ bool state(const Store &store, uint64_t id) {
     return selkavorn_state(store.data(), store.size(), id, numbers, SELKAVORN_STATE_NUMBERS) == SELKAVORN_DONE;
 }
 
+bool summary(const Store &store) {
+    uint64_t numbers[SELKAVORN_BOARD_NUMBERS];
+    return selkavorn_board(store.data(), store.size(), numbers, SELKAVORN_BOARD_NUMBERS) == SELKAVORN_DONE;
+}
+
 // The other calls, on full books. A snapshot sets a book of 40 places.
 void measure_others(Depth depth, const FIX::DataDictionary &dictionary, const Measure &measure) {
     const Case c = {depth, 0, 0};
@@ -177,19 +219,28 @@ void measure_others(Depth depth, const FIX::DataDictionary &dictionary, const Me
     for (const std::string &x : s.stream.changes) feed(s.store, x);
     const std::vector<std::string> &ws = s.stream.snapshots;
     const uint64_t *ids = s.stream.ids.data(), id = ids[0];
-    Store opened, store;
-    open(opened, depth, s.stream);
+    Store unheard, store;
+    open(unheard, depth, s.stream);
+    const plain_board plain_unheard = opened(depth, s.stream);
+    plain_board plain;
+    PeerBoard board;
     auto nothing = [] {};
     auto reopen = [&] { return selkavorn_open(store.data(), store.size(), depth, ids, INSTRUMENTS) == SELKAVORN_DONE; };
     std::vector<Measured> all = {
-        {columns(c, 0, "open"), CALLS_A_ROUND, [&] { store = opened; }, again(reopen), {}},
-        {columns(c, mean_length(ws), "snapshot"), ws.size(), [&] { store = opened; },
-         for_each(ws, [&](const std::string &w) { return SELKAVORN_ANSWER(feed(store, w)) == SELKAVORN_TAKEN; }), {}},
+        {columns(c, 0, "open"), CALLS_A_ROUND, [&] { store = unheard; }, again(reopen), {}},
+        {columns(c, mean_length(ws), "snapshot"), ws.size(), [&] { store = unheard; },
+         for_each(ws, [&](const std::string &w) { return takes(store, w); }), {}},
+        {columns(c, mean_length(ws), "plain snapshot"), ws.size(), [&] { plain = plain_unheard; },
+         for_each(ws, [&](const std::string &w) { return takes(plain, w); }), {}},
+        {columns(c, mean_length(ws), "QuickFIX snapshot"), ws.size(), [&] { board = s.board; },
+         for_each(ws, [&](const std::string &w) { return peer_apply(dictionary, w, board); }), {}},
         {columns(c, 0, "quote"), CALLS_A_ROUND, nothing, again([&] { return quote(s.store, id); }), {}},
         {columns(c, 0, "write"), CALLS_A_ROUND, nothing, again([&] { return write(s.store, id); }), {}},
         {columns(c, 0, "state"), CALLS_A_ROUND, nothing, again([&] { return state(s.store, id); }), {}},
+        {columns(c, 0, "board"), CALLS_A_ROUND, nothing, again([&] { return summary(s.store); }), {}},
     };
     measure(all);
+    check_same(c, store, "the plain board", seen(plain));
 }
 
 // A store whose 640 places hold order ids of this kind.
@@ -201,15 +252,19 @@ Store filled(Ids ids) {
     return store;
 }
 
-// The scan by the order ids that a store holds, at one place in memory, since the time depends on that too.
+// The scan by the order ids that a store holds, and the bare loops, at one place in memory, since the time depends on that too.
 void measure_scans(const Measure &measure) {
     const Case c = {ORDER_DEPTH, 0, 0};
     const Store uniform = filled(LONG_IDS), mixed = filled(MIXED_IDS);
     Store store;
+    auto nothing = [] {};
     auto scans = again([&] { return scan(store.data()); });
     std::vector<Measured> all = {
         {columns(c, 0, "scan"), CALLS_A_ROUND, [&] { store = uniform; }, scans, {}},
-        {columns(c, 0, "scan_mixed"), CALLS_A_ROUND, [&] { store = mixed; }, scans, {}},
+        {columns(c, 0, "mixed scan"), CALLS_A_ROUND, [&] { store = mixed; }, scans, {}},
+        {columns(c, 0, "loop"), CALLS_A_ROUND, nothing, again([&] { return loop<loop_wide>(store.data()); }), {}},
+        {columns(c, 0, "plain loop"), CALLS_A_ROUND, nothing, again([&] { return loop<loop_plain>(store.data()); }), {}},
+        {columns(c, 0, "scalar loop"), CALLS_A_ROUND, nothing, again([&] { return loop<loop_scalar>(store.data()); }), {}},
     };
     measure(all);
 }
@@ -225,7 +280,7 @@ double thread_ns() {
     return static_cast<double>(t.tv_sec) * 1e9 + static_cast<double>(t.tv_nsec);
 }
 
-// Times the rounds in turn, so that what else the machine does falls on all alike. Prints the median and the quartiles.
+// Times the rounds in turn, so that what else the machine does falls on all alike. Prints the median of the rounds.
 void time_all(std::vector<Measured> &all, int rounds) {
     for (int round = -WARM_UP; round < rounds; round++)
         for (Measured &m : all) {
@@ -237,8 +292,7 @@ void time_all(std::vector<Measured> &all, int rounds) {
         }
     for (Measured &m : all) {
         std::sort(m.ns.begin(), m.ns.end());
-        size_t n = m.ns.size();
-        std::printf("%s\t%.1f\t%.1f\t%.1f\n", m.what.c_str(), m.ns[n / 2], m.ns[n / 4], m.ns[n - 1 - n / 4]);
+        std::printf("%s\t%.1f\n", m.what.c_str(), m.ns[m.ns.size() / 2]);
     }
     std::fflush(stdout);
 }
@@ -257,13 +311,30 @@ void count_all(std::vector<Measured> &all) {
     }
 }
 
+// Fails where the plain reader answers or holds something else, or where an answer never came; prints the messages by answer.
+void agree() {
+    for (Depth depth : {ORDER_DEPTH, PRICE_DEPTH}) {
+        std::map<uint64_t, int> answers;
+        const std::string differs = disagreement(depth, AGREED, answers);
+        if (!differs.empty()) fail("the plain reader differs: " + differs);
+        for (uint64_t answer = 0; answer <= SELKAVORN_FIELDS; answer++)
+            if (answers[answer] == 0) fail("no message was answered " + std::to_string(answer));
+        for (const auto &counted : answers)
+            std::printf("%d\t%d\t%d\n", depth, static_cast<int>(counted.first), counted.second);
+    }
+}
+
 } // namespace
 
 int main(int argc, char **argv) {
     const std::string how = argc > 1 ? argv[1] : "";
+    if (how == "agree" && argc == 2) {
+        agree();
+        return 0;
+    }
     const int rounds = how == "time" && argc == 4 ? std::atoi(argv[3]) : 0;
     const bool count = how == "count" && (argc == 3 || argc == 4), few = argc == 4;
-    if (rounds <= 0 && !count) fail("usage: bench time DICTIONARY ROUNDS, or bench count DICTIONARY [FEW]");
+    if (rounds <= 0 && !count) fail("usage: bench time DICTIONARY ROUNDS, bench count DICTIONARY [FEW], or bench agree");
     const Measure measure = [&](std::vector<Measured> &all) { count ? count_all(all) : time_all(all, rounds); };
     FIX::DataDictionary dictionary(argv[2]);
     if (count && few) {

@@ -1,23 +1,37 @@
 #!/usr/bin/env python3
-"""report.py FOLDER: prints what a run of scripts/bench measured, and whether each aim is met, as docs/BENCH.md has it."""
-import statistics
+"""report.py VERSION RUN.json..: prints docs/BENCH.md from the runs of this version: a column for each machine, and whether each
+aim is met."""
 import sys
 
-from results import DEPTHS, ENTRIES, QUICKFIX, Case, Results
+from results import DEPTHS, MACHINES, MOST_SPREAD, SCANS, STATES, Case, cases, load, median, message_name, row_name, spread
 
-CALLS = ("open", "feed", "quote", "write", "state")
-STATES = ("none waiting", "one waiting")
-SCANS = Case("order", 0, 0)
+CALLS = ("open", "feed", "quote", "write", "state", "board")
 MOST_STACK = 24576  # bytes
 
-# An aim on times: what it says, what is compared for messages of how many entries, and the bound.
-SCAN_AIM = ("the scan takes at most 0.5 of QuickFIX's parse of 1 entry", 0.5)
-MIXED_AIM = ("the scan of mixed order ids takes at most 1.25 of the uniform one", 1.25)
-FEED_AIMS = (
-    ("feeding 1 entry takes less than QuickFIX's parse", "feed", "parse", 1, 1.0),
-    ("feeding 10 entries takes under 0.4 of QuickFIX with its book", "feed", "book", 10, 0.4),
+# Aims on times, where none waits: what each says, of which cases, what is compared, and whether a ratio is good.
+AIMS = (
+    ("the scan takes at most 1.15 of a bare loop over the 7,168 numbers", cases, "scan", "loop", lambda ratio: ratio <= 1.15),
+    ("the scan of mixed order ids takes at most 1.25 of the uniform one",
+     lambda waiting: [SCANS] if waiting == 0 else [], "mixed scan", "scan", lambda ratio: ratio <= 1.25),
+    ("feeding 1 entry takes less than QuickFIX's parse",
+     lambda waiting: [case for case in cases(waiting) if case.entries == 1], "feed", "parse", lambda ratio: ratio < 1.0),
+    ("feeding 10 entries takes under 0.4 of QuickFIX with its book",
+     lambda waiting: [case for case in cases(waiting) if case.entries == 10], "feed", "book", lambda ratio: ratio < 0.4),
 )
 STACK_AIM = f"the deepest stack is under {MOST_STACK:,} bytes"
+
+MESSAGE_ROWS = (("feed", "feed"), ("scan", "of that the scan"), ("beyond", "of that beyond the scan"), ("plain", "plain C reader"),
+                ("parse", "QuickFIX: parse"), ("validate", "QuickFIX: parse, validate"),
+                ("book", "QuickFIX: parse, validate, book"))
+RATIOS = (("feed", "parse"), ("feed", "book"), ("beyond", "plain"), ("scan", "loop"))
+# Where one waits the queue is fuller in the scan than in the feed, so the difference says nothing.
+NONE_WAITING_ONLY = "beyond"
+OTHER_ROWS = (("open", "open, 16 instruments"), ("snapshot", "feed, a snapshot of 40 entries, {bytes:,} bytes"),
+              ("plain snapshot", "the same, plain C reader"), ("QuickFIX snapshot", "the same, QuickFIX with its book"),
+              ("quote", "quote"), ("write", "write, 40 places"), ("state", "state"), ("board", "board"))
+SCAN_ROWS = (("scan", "scan, order ids of 10 bytes"), ("mixed scan", "scan, order ids of 5 and of 10 bytes"),
+             ("loop", "bare loop, sixteen numbers at a time: the floor"), ("plain loop", "bare loop, one number after the other"),
+             ("scalar loop", "bare loop, one number to an instruction"))
 
 NOTES = """\
 - The messages are made by `bench/streams.cpp`, the same in every run: 16 instruments, all followed; entries of type X that
@@ -27,177 +41,216 @@ NOTES = """\
   `selkavorn_state` that is given no room, so the scan with the shortest refusal, of a store that holds all 640 places; where one
   waits it holds 600, and the queue is full in it, and half full in `feed` on average. Order ids have 10 bytes; where they are
   mixed, each has 10 or 5, drawn evenly, and both stores are scanned at the same address.
+- The floor of the scan is a loop in C that joins the 7,168 numbers by `|`, sixteen at a time, so that none waits for the one
+  before it (`bench/loop.c`). It is the quickest of three; the aim is held to it, not to the simpler ones that the compiler makes
+  slower.
+- The plain reader (`bench/plain.c`) keeps the same rules, books and queue in C without a proof, and does not scan what it holds:
+  it is the peer of what a feed takes beyond the scan. That is the difference of `feed` and `scan`, in each repetition; where one
+  waits it is not given, since the queue is fuller in that scan than in the feed.
 - `parse` is QuickFIX's `Message` made from the same bytes with a dictionary of the same tags (`bench/dictionary.xml`), which
   checks length and checksum; `validate` adds its validation by that dictionary; `book` adds the number, its time, and plain
   vectors of places that take the entries, without a queue (`bench/peer.cpp`).
-- Both sides end with the same books: after each case all 16 instruments are quoted and written as snapshots, and each number
-  of the quotes and each byte of the snapshots is what the vectors hold. One that waited takes its snapshot first, so that the
-  queue is compared too. The run fails where anything differs.
+- All sides end with the same books: after each case all 16 instruments are quoted and written as snapshots, and each number
+  of the quotes and each byte of the snapshots is what the peers hold. One that waited takes its snapshot first, so that the
+  queue is compared too. Before anything is timed, the plain reader is asked 20,000 messages, many lost, repeated or harmed: it
+  must give the same answer to each, every answer of a feed must come, and the books must stay the same. The run fails where
+  anything differs.
 - The store starts at an address that 64 divides, as a line of the cache does (`bench/store.hpp`).
-- A time is the processor's time of the thread, by round, divided by the calls of the round; the rounds of the columns take
-  turns. The tables have the medians of {rounds} rounds. The middle half of the rounds spans {typical:.1%} of its median in the middle
-  one of all columns, {worst:.1%} in the worst.
-- Instructions are those that callgrind ({valgrind}) counts on this processor in one round.
-- A call's stack is the deepest byte that it wrote below its caller's frame, in {stack_calls} calls of `bench/stack.c`. It is measured,
-  not a bound.
-- QuickFIX is Debian's libquickfix {quickfix}; the code around it is compiled with g++ {compiler} at -O3.
-- The proved code is compiled by the Rattle kit ({kit}) at -O3, without options for one processor.{native}
+- A time is the processor's time of the thread, by round, divided by the calls of the round; the rounds of the rows take turns. A
+  repetition is a run of the program, with addresses of its own, and its time is the median of its rounds. A table has the
+  median of the repetitions, the lowest and the highest of them, and how far those lie apart. A run in which that is above {most} in
+  any row that is timed is not kept, unless it is asked for; what lies beyond the scan is a difference of two such rows.
+- Instructions are those that callgrind counts in one round, on the same machine.
+- A call's stack is the deepest byte that it wrote below its caller's frame, in the calls of `bench/stack.c`. It is measured, not a
+  bound.
+- The proved code is compiled by the Rattle kit at -O3, without options for one processor. On x86-64 it is the archive that users
+  link; on another processor the kit's module is compiled for that (docs/NATIVE.md). What stands around it, the plain reader and
+  the loops are compiled at -O3 too.
 """
-NATIVE = """ Its archive is for
-  x86-64; the same compiler compiles the same module for {machine} (`scripts/native-archive`), and all times and instructions
-  are of that. The archive for x86-64 runs under an emulator, for its stack alone."""
 
 
 def number(value):
     return "-" if value is None else f"{value:,.0f}"
 
 
-def table(head, rows):
-    """A table of markdown that is aligned as text: the first column to the left, the others to the right."""
+def span(values):
+    return f"{min(values):,.0f} to {max(values):,.0f} ({spread(values):.1%})"
+
+
+def ratio(values):
+    return f"{median(values):.2f} ({min(values):.2f} to {max(values):.2f})"
+
+
+def table(head, rows, left=1):
+    """A table of markdown that is aligned as text: the first columns to the left, the others to the right."""
     rows = [[str(cell) for cell in row] for row in rows]
     widths = [max(len(row[i]) for row in [head] + rows) for i in range(len(head))]
 
     def line(row):
-        return "| " + " | ".join([row[0].ljust(widths[0])] + [c.rjust(w) for c, w in zip(row[1:], widths[1:])]) + " |"
+        cells = [c.ljust(w) if i < left else c.rjust(w) for i, (c, w) in enumerate(zip(row, widths))]
+        return "| " + " | ".join(cells) + " |"
 
-    rule = "|" + "|".join(["-" * (widths[0] + 2)] + ["-" * (w + 1) + ":" for w in widths[1:]]) + "|"
+    rule = "|" + "|".join("-" * (w + 2) if i < left else "-" * (w + 1) + ":" for i, w in enumerate(widths)) + "|"
     return "\n".join([line(head), rule] + [line(row) for row in rows]) + "\n"
 
 
-def entries_of(case):
-    return f"{case.depth} depth, {case.entries} {'entry' if case.entries == 1 else 'entries'}"
+def of_machines(runs, *names):
+    return [f"{run.machine}: {name}" for run in runs for name in names]
 
 
-def cases(waiting):
-    return [Case(depth, entries, waiting) for depth in DEPTHS for entries in ENTRIES]
+def figures(run, case, what):
+    """The cells of a row on one machine: median, span, instructions."""
+    if (case, what) not in run.times and what != "beyond":
+        return ["-", "-", "-"]
+    ns = run.ns(case, what)
+    return [number(median(ns)), span(ns), number(run.instructions.get((case, what)))]
 
 
-def times(results, waiting):
-    head = ["message", "bytes", "feed", "scan", "parse", "validate", "book", "feed / parse", "feed / book", "scan / parse"]
+def times(runs, waiting):
     rows = []
     for case in cases(waiting):
-        cells = [number(results.ns(case, what)) for what in ("feed", "scan") + QUICKFIX]
-        ratios = [results.ratio(case, *pair) for pair in (("feed", "parse"), ("feed", "book"), ("scan", "parse"))]
-        rows.append([entries_of(case), number(results.bytes[case])] + cells + [f"{ratio:.2f}" for ratio in ratios])
-    return table(head, rows)
+        name = f"{message_name(case)}, {runs[0].bytes[case]:,} bytes"
+        for what, meaning in MESSAGE_ROWS:
+            if waiting and what == NONE_WAITING_ONLY:
+                continue
+            rows.append([name, meaning] + [cell for run in runs for cell in figures(run, case, what)])
+            name = ""
+    return table(["message", ""] + of_machines(runs, "ns", "lowest to highest", "instructions"), rows, 2)
 
 
-def instructions(results, waiting):
-    rows = []
-    for case in cases(waiting):
-        counts = [results.instructions.get((case, what)) for what in ("feed", "scan") + QUICKFIX]
-        if None not in counts:
-            feed, _, parse, _, book = counts
-            rows.append([entries_of(case)] + [number(c) for c in counts] + [f"{feed / parse:.2f}", f"{feed / book:.2f}"])
-    return table(["message", "feed", "scan", "parse", "validate", "book", "feed / parse", "feed / book"], rows) if rows else ""
+def ratios(runs, waiting):
+    names = {"beyond": "beyond the scan", "plain": "plain C reader"}
+    pairs = [pair for pair in RATIOS if not (waiting and NONE_WAITING_ONLY in pair)]
+    heads = [f"{names.get(what, what)} / {names.get(other, other)}" for what, other in pairs]
+    rows = [[message_name(case)] + [ratio(run.ratios(case, *pair)) for run in runs for pair in pairs] for case in cases(waiting)]
+    return table(["message"] + of_machines(runs, *heads), rows)
 
 
-def others(results):
+def others(runs):
     rows = []
     for depth in DEPTHS:
         case = Case(depth, 0, 0)
-        snapshot = f"feed, a snapshot of 40 entries, {results.bytes[case]:,} bytes"
-        for what, meaning in (("open", "open, 16 instruments"), ("snapshot", snapshot), ("quote", "quote"),
-                              ("write", "write, 40 places"), ("state", "state")):
-            counted = results.instructions.get((case, what))
-            rows.append([f"{depth} depth: {meaning}", number(results.ns(case, what)), number(counted)])
-    for what, meaning in (("scan", "scan, order ids of 10 bytes"), ("scan_mixed", "scan, order ids of 5 and of 10 bytes")):
-        rows.append([f"order depth: {meaning}", number(results.ns(SCANS, what)), number(results.instructions.get((SCANS, what)))])
-    return table(["call", "ns", "instructions"], rows)
+        for what, meaning in OTHER_ROWS:
+            if any((case, what) in run.times for run in runs):
+                name = f"{depth} depth: " + meaning.format(bytes=runs[0].bytes[case])
+                rows.append([name] + [cell for run in runs for cell in figures(run, case, what)])
+    for what, meaning in SCAN_ROWS:
+        rows.append([f"order depth: {meaning}"] + [cell for run in runs for cell in figures(run, SCANS, what)])
+    return table(["call"] + of_machines(runs, "ns", "lowest to highest", "instructions"), rows)
 
 
-def deepest(results, machine, function):
-    return max((stack for stack in results.stacks if (stack.machine, stack.function) == (machine, function)), key=lambda s: s.bytes)
+def of_machine(runs, machine, what):
+    """The stacks or the sizes of a machine: from its own run, or from another's, which had its archive under an emulator."""
+    own = [run for run in runs if run.machine == machine]
+    return next((getattr(run, what)[machine] for run in own + list(runs) if machine in getattr(run, what)), {})
 
 
-def stacks(results):
-    rows = [[call] + [number(deepest(results, machine, call).bytes) for machine in results.machines] for call in CALLS]
-    return table(["call"] + results.machines, rows)
+def known(runs, what):
+    return {machine: of_machine(runs, machine, what) for machine in MACHINES if of_machine(runs, machine, what)}
 
 
-def sizes(results):
-    names = sorted({name for _, name in results.sizes}, key=lambda n: (not n.startswith("selkavorn_"), n))
-    rows = [[name] + [number(results.sizes.get((machine, name))) for machine in results.machines] for name in names]
-    sums = [sum(size for (m, _), size in results.sizes.items() if m == machine) for machine in results.machines]
-    return table(["function"] + results.machines, rows + [["all"] + [number(s) for s in sums]])
+def stacks(runs):
+    found = known(runs, "stacks")
+    calls = [call for call in CALLS if any(call in of for of in found.values())]
+    return table(["call"] + list(found), [[call] + [number(of.get(call)) for of in found.values()] for call in calls])
 
 
-def scan_ratio(results, waiting):
-    """The scan is the same in all rows, but for where the store lies: the middle one of them, by the shorter parse of 1 entry."""
-    scan = statistics.median(results.ns(case, "scan") for case in cases(waiting))
-    return scan / min(results.ns(Case(depth, 1, waiting), "parse") for depth in DEPTHS)
+def sizes(runs):
+    found = known(runs, "sizes")
+    names = sorted({name for of in found.values() for name in of}, key=lambda name: (not name.startswith("selkavorn_"), name))
+    rows = [[name] + [number(of.get(name)) for of in found.values()] for name in names]
+    return table(["function"] + list(found), rows + [["all"] + [number(sum(of.values())) for of in found.values()]])
 
 
-def judged(results):
-    """For each aim: what it says, what was measured in each state, and whether that is good where none waits."""
-    says, bound = SCAN_AIM
-    scans = [scan_ratio(results, waiting) for waiting in range(len(STATES))]
-    yield says, [f"{ratio:.2f}" for ratio in scans], scans[0] <= bound
-    says, bound = MIXED_AIM
-    mixed = results.ratio(SCANS, "scan_mixed", "scan")
-    yield says, [f"{mixed:.2f}", "-"], mixed <= bound
-    for says, ours, theirs, entries, bound in FEED_AIMS:
-        worst = [max(results.ratio(Case(depth, entries, waiting), ours, theirs) for depth in DEPTHS)
-                 for waiting in range(len(STATES))]
-        yield says, [f"{ratio:.2f}" for ratio in worst], worst[0] < bound
-    deep = max(stack.bytes for stack in results.stacks)
-    yield STACK_AIM, [number(deep)] * len(STATES), deep < MOST_STACK
+def verdict(good):
+    if all(good):
+        return "met"
+    return f"met in {sum(good)} of {len(good)}" if any(good) else "MISSED"
 
 
-def aims(results):
-    rows = [[says] + measured + ["met" if good else "MISSED"] for says, measured, good in judged(results)]
-    met = sum(row[-1] == "met" for row in rows)
-    return f"Aims met: {met} of {len(rows)}; missed: {len(rows) - met}.\n\n" + table(["aim"] + list(STATES) + ["verdict"], rows)
+def judged(run):
+    """For each aim: what it says, the worst of each state, and whether it is met in every row and repetition where none waits."""
+    for says, of, what, other, is_good in AIMS:
+        found = [[r for case in of(waiting) for r in run.ratios(case, what, other)] for waiting in range(len(STATES))]
+        yield says, [f"{max(values):.2f}" if values else "-" for values in found], verdict([is_good(r) for r in found[0]])
+    deepest = max(depth for of in run.stacks.values() for depth in of.values())
+    yield STACK_AIM, [number(deepest)] * len(STATES), verdict([deepest < MOST_STACK])
 
 
-def notes(results):
-    spreads = results.spreads()
-    calls = len(results.stacks) // len(results.machines)
-    facts = results.facts
-    native = NATIVE.format(**facts) if len(results.machines) > 1 else ""
-    return NOTES.format(typical=spreads[len(spreads) // 2], worst=spreads[-1], stack_calls=calls, native=native, **facts)
+def aims(runs):
+    by_run = [list(judged(run)) for run in runs]
+    rows = [[of[0][0]] + [cell for _, worst, met in of for cell in [met] + worst] for of in zip(*by_run)]
+    counts = [f"{run.machine} {sum(met == 'met' for *_, met in of)} of {len(of)}" for run, of in zip(runs, by_run)]
+    return "Aims met: " + ", ".join(counts) + ".\n\n" + table(["aim"] + of_machines(runs, "verdict", *STATES), rows)
 
 
-def sections(results):
-    facts = results.facts
-    quick = " A quick run: fewer rounds, and few cases counted." if facts["quick"] else ""
-    yield "# Speed, stack and size\n"
-    yield (f"Written by `make bench`. Measured on {facts['date']}, on {facts['processor']} ({facts['machine']}), "
-           f"beside QuickFIX {facts['quickfix']}.{quick}\n")
-    if not facts["quick"]:
-        yield "![Time of one message, the proved code beside QuickFIX](bench.svg)\n"
+def machines(runs, stale):
+    """What each run was made on, and which machine has none."""
+    rows = []
+    for run in runs:
+        f, widest = run.facts, max(spread(ns) for ns in run.times.values())
+        rows.append([run.machine, f["processor"], f["date"], f"{f['repetitions']} of {f['rounds']}", f"{widest:.1%}", f["compiler"],
+                     f["kit"], f["quickfix"], f["valgrind"]])
+    text = table(["machine", "processor", "measured on", "repetitions of rounds", "widest spread", "C and C++ compiler", "kit",
+                  "QuickFIX", "callgrind"], rows, 9) if rows else ""
+    for machine in MACHINES:
+        if machine not in [run.machine for run in runs]:
+            other = f"; the one of {stale[machine]} is of another version" if machine in stale else ""
+            text += f"\n**{machine}: no run of this version is kept{other}.** `make bench` on such a machine adds its columns.\n"
+    return text
+
+
+def noise(runs):
+    for run in runs:
+        names = [f"{row_name(case, what)} ({spread(ns):.1%})" for case, what, ns in run.noisy()]
+        if names:
+            yield f"On {run.machine} the spread is above {MOST_SPREAD:.0%} in: " + "; ".join(names) + ".\n"
+
+
+def measured(runs):
+    yield "![Time of one message, the proved code beside its peers](bench.svg)\n"
     yield "## Aims\n"
-    yield aims(results)
-    yield ("The aims are for boards on which none waits; where one waits, the same is measured without an aim. A ratio is of times, "
-           "and is the worse one of order and price depth. The scan does not depend on the message, and its rows differ by where the "
-           "store happens to lie in memory: the aim takes their median. The stack is the deepest of "
-           "all calls measured.\n")
-    yield "## Time of one message, ns\n"
-    yield "The proved code feeds (the scan is a part of that); QuickFIX parses, validates too, keeps a book too.\n"
+    yield aims(runs)
+    yield ("The aims are for boards on which none waits; where one waits, the same is measured without an aim. A ratio is of times. An "
+           "aim is judged in every row and every repetition that it speaks of, order and price depth both; the figure is the worst of "
+           "them. The stack is the deepest of all calls measured.\n")
     for waiting, state in enumerate(STATES):
-        yield f"{state.capitalize()}:\n"
-        yield times(results, waiting)
-    yield "## Instructions of one message\n"
+        yield f"## Ratios, {state}\n"
+        yield ratios(runs, waiting)
     for waiting, state in enumerate(STATES):
-        if instructions(results, waiting):
-            yield f"{state.capitalize()}:\n"
-            yield instructions(results, waiting)
+        yield f"## Time of one message, {state}, ns\n"
+        yield times(runs, waiting)
     yield "## The other calls\n"
-    yield "On full books, none waiting; each call scans the store, but open.\n"
-    yield others(results)
+    yield "On full books, none waiting; each call of the library scans the store, but open.\n"
+    yield others(runs)
     yield "## Stack of a call, bytes\n"
-    yield stacks(results)
+    yield stacks(runs)
     yield "## Code of the archive, bytes\n"
     yield "What is not named was taken into its caller.\n"
-    yield sizes(results)
-    yield "## How it was measured\n"
-    yield notes(results)
+    yield sizes(runs)
+    if "x86_64" not in [run.machine for run in runs]:
+        yield "Stack and code of x86_64 are of the archive for x86-64, whose stack was measured under an emulator.\n"
+
+
+def page(version, all_runs):
+    runs = [run for run in all_runs if run.facts["version"] == version]
+    stale = {run.machine: run.facts["date"] for run in all_runs if run not in runs}
+    yield "# Speed, stack and size\n"
+    yield ("Written by `make bench` from the runs that are kept in `bench/results/`, one for each machine. A run is of one version of "
+           f"the code and of the bench: this page is of version {version}.\n")
+    yield machines(runs, stale)
+    yield from noise(runs)
+    if runs:
+        yield from measured(runs)
+    yield "## How it is measured\n"
+    yield NOTES.format(most=f"{MOST_SPREAD:.0%}")
 
 
 def main():
-    if len(sys.argv) != 2:
+    if len(sys.argv) < 2:
         sys.exit(__doc__)
-    sys.stdout.write("\n".join(sections(Results(sys.argv[1]))))
+    runs = sorted((load(path) for path in sys.argv[2:]), key=lambda run: MACHINES.index(run.machine))
+    sys.stdout.write("\n".join(page(sys.argv[1], runs)))
 
 
 main()

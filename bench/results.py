@@ -1,42 +1,71 @@
-"""What one run of scripts/bench measured, read from the tables in its folder."""
-import csv
-import os
+"""Runs of scripts/bench, as bench/results/MACHINE.json keeps them: a time is a list, one median for each repetition."""
+import json
+import statistics
 from collections import namedtuple
 
+MACHINES = ("x86_64", "aarch64")
 ENTRIES = (1, 4, 10, 64)
 DEPTHS = ("order", "price")
-QUICKFIX = ("parse", "validate", "book")
+STATES = ("none waiting", "one waiting")
+MOST_SPREAD = 0.10
 
 # A depth kind, how many entries a message has (0 for the calls that take no X), how many instruments wait.
 Case = namedtuple("Case", "depth entries waiting")
-Time = namedtuple("Time", "ns low high")
-Stack = namedtuple("Stack", "machine function what bytes")
+SCANS = Case("order", 0, 0)
 
 
-class Results:
-    def __init__(self, folder):
-        def rows(name):
-            with open(os.path.join(folder, name), newline="") as f:
-                return list(csv.reader(f, delimiter="\t", quoting=csv.QUOTE_NONE))
+def cases(waiting):
+    return [Case(depth, entries, waiting) for depth in DEPTHS for entries in ENTRIES]
 
-        self.facts = dict(rows("facts.tsv"))
+
+def median(values):
+    return statistics.median(values)
+
+
+def spread(values):
+    """How far the lowest and the highest lie apart, over the median."""
+    return (max(values) - min(values)) / median(values)
+
+
+class Run:
+    def __init__(self, kept):
+        self.facts = kept["facts"]
+        self.stacks, self.sizes = kept["stacks"], kept["sizes"]
         self.bytes, self.times, self.instructions = {}, {}, {}
-        for depth, entries, waiting, size, what, *ns in rows("times.tsv"):
-            case = Case(depth, int(entries), int(waiting))
-            self.bytes[case] = max(int(size), self.bytes.get(case, 0))
-            self.times[case, what] = Time(*map(float, ns))
-        for depth, entries, waiting, _, what, calls, count in rows("instructions.tsv"):
-            self.instructions[Case(depth, int(entries), int(waiting)), what] = int(count) / int(calls)
-        self.stacks = [Stack(machine, function, what, int(size)) for machine, function, what, _, size in rows("stacks.tsv")]
-        self.sizes = {(machine, function): int(size) for machine, size, function in rows("sizes.tsv")}
-        self.machines = list(dict.fromkeys(stack.machine for stack in self.stacks))
+        for row in kept["rows"]:
+            case = Case(row["depth"], row["entries"], row["waiting"])
+            self.bytes[case] = max(row["bytes"], self.bytes.get(case, 0))
+            self.times[case, row["what"]] = row["ns"]
+            self.instructions[case, row["what"]] = row["instructions"]
+
+    @property
+    def machine(self):
+        return self.facts["machine"]
 
     def ns(self, case, what):
-        return self.times[case, what].ns
+        """The times of a row. What a feed takes beyond the scan is the difference of two rows, in each repetition."""
+        if what == "beyond":
+            return [feed - scan for feed, scan in zip(self.times[case, "feed"], self.times[case, "scan"])]
+        return self.times[case, what]
 
-    def ratio(self, case, what, other):
-        return self.ns(case, what) / self.ns(case, other)
+    def ratios(self, case, what, other):
+        return [ours / theirs for ours, theirs in zip(self.ns(case, what), self.ns(case, other))]
 
-    def spreads(self):
-        """The span of the middle half of the rounds over the median, each in turn, the least first."""
-        return sorted((time.high - time.low) / time.ns for time in self.times.values())
+    def noisy(self):
+        """The rows whose spread is above what a run may have to be kept."""
+        return [(case, what, ns) for (case, what), ns in self.times.items() if spread(ns) > MOST_SPREAD]
+
+
+def load(path):
+    with open(path, encoding="ascii") as file:
+        return Run(json.load(file))
+
+
+def message_name(case):
+    return f"{case.depth} depth, {case.entries} {'entry' if case.entries == 1 else 'entries'}"
+
+
+def row_name(case, what):
+    """A row in words; the calls that take no X have no entries."""
+    where = f"{message_name(case)}, {STATES[case.waiting]}" if case.entries else f"{case.depth} depth"
+    return f"{where}: {what}"

@@ -2,22 +2,7 @@
 
 namespace {
 
-constexpr char SOH = '\1';
 constexpr uint64_t FIRST_ID = 3809512;
-
-// Numbers that look drawn, the same in every run (Knuth's multiplier, the upper half of the state).
-struct Draw {
-    uint64_t state = 20250103;
-    unsigned below(unsigned n) {
-        state = state * 6364136223846793005u + 1442695040888963407u;
-        return static_cast<unsigned>((state >> 33) % n);
-    }
-};
-
-std::string padded(unsigned value, int width) {
-    std::string digits = std::to_string(value);
-    return std::string(width - digits.size(), '0') + digits;
-}
 
 std::string time_of_day(Draw &draw) {
     return "13:" + padded(draw.below(60), 2) + ":" + padded(draw.below(60), 2) + "." + padded(draw.below(1000), 3);
@@ -71,6 +56,11 @@ std::string entry(Kind kind, const std::vector<uint64_t> &ids, Held held, Draw &
 }
 
 } // namespace
+
+std::string padded(uint64_t value, size_t width) {
+    std::string digits = std::to_string(value);
+    return std::string(width - digits.size(), '0') + digits;
+}
 
 std::string field(int tag, const std::string &value) { return std::to_string(tag) + "=" + value + SOH; }
 

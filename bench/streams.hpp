@@ -12,11 +12,25 @@ enum Depth { ORDER_DEPTH = 0, PRICE_DEPTH = 1 };
 // Order ids: all of 10 bytes, or some of 10 and some of 5, drawn evenly.
 enum Ids { LONG_IDS, MIXED_IDS };
 
+constexpr char SOH = '\1';
+
+// Numbers that look drawn, the same in every run (Knuth's multiplier, the upper half of the state).
+struct Draw {
+    uint64_t state = 20250103;
+    unsigned below(unsigned n) {
+        state = state * 6364136223846793005u + 1442695040888963407u;
+        return static_cast<unsigned>((state >> 33) % n);
+    }
+};
+
 struct Stream {
     std::vector<uint64_t> ids;          // the SecurityIDs followed
     std::vector<std::string> snapshots; // a W of 20 bids and 20 offers for each, with 369 = 0
     std::vector<std::string> changes;   // X, numbered from 1
 };
+
+// The digits of a number, with zeros before them.
+std::string padded(uint64_t value, size_t width);
 
 // A field of a message, its SOH included.
 std::string field(int tag, const std::string &value);

@@ -124,7 +124,7 @@ fn kept(mut calls: Vec<Call>, options: &Options) -> Vec<Call> {
     calls
 }
 
-/// Compares a driver with the second keeper; ends with 1 after a difference.
+/// Compares a driver with the second keeper; ends with 1 after a difference, with 2 where no call was compared.
 fn compare_seeds(
     seeds: [&str; 2],
     driver: &[&str],
@@ -138,6 +138,9 @@ fn compare_seeds(
         Outcome::Differs(report) => {
             output(&report)?;
             Ok(ExitCode::FAILURE)
+        }
+        Outcome::Same(answers) if answers.calls() == 0 => {
+            Err(format!("seeds {first} to {last}: no call was compared"))
         }
         Outcome::Same(answers) => {
             let calls = answers.calls();

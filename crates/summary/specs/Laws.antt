@@ -2,12 +2,14 @@
 use mathlib.Core.Path.{_≡_}
 use mathlib.Core.List.{List}
 use Prim.Native.Nat.{ℕ, _<_, _^_}
-use lib.ListN.{length}
+use lib.ListN.{length, take}
 use Rattle.heading.specs.Marks.{marked}
 use Rattle.board.specs.Board.{Board, at}
 use Rattle.store.specs.Meaning.{marksOf}
 use Rattle.sound.specs.Settled.{Settled}
-use Rattle.summary.specs.Summary.{Summed}
+use Rattle.quote.specs.Quotes.{quoteOf}
+use Rattle.ask.specs.Ask.{quoteNumber, quoteValues}
+use Rattle.summary.specs.Summary.{summaryWords, Summed}
 
 -- Bit i of the marks says whether the instrument at place i waits, and no bit stands at or above the number of instruments.
 pub record MarksSay (b : Board) : Type 0 where
@@ -16,6 +18,12 @@ pub record MarksSay (b : Board) : Type 0 where
 
 abbrev pub MarksSayWhoWaits : Type 0
 MarksSayWhoWaits = (b : Board) → MarksSay b
+
+-- A quote that is given begins with the summary's first three numbers: H, the heard date and time.
+abbrev pub DatedAsQuotes : Type 0
+DatedAsQuotes =
+    (id : ℕ) (now : List ℕ) (limit : ℕ) (b : Board) → quoteNumber (quoteOf id now limit b) ≡ 0
+    → take 3 (quoteValues (b .depth) (quoteOf id now limit b)) ≡ take 3 (summaryWords b)
 
 -- The call is settled.
 abbrev pub SummarySettled : Type 0

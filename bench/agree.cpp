@@ -1,0 +1,139 @@
+#include "agree.hpp"
+
+#include <algorithm>
+
+#include "plain.h"
+#include "same.hpp"
+#include "selkavorn.h"
+#include "store.hpp"
+
+namespace {
+
+constexpr int BETWEEN = 50; // messages between two looks at all books
+
+// Values at the bounds of one field or another, and just outside.
+const char *const VALUES[] = {"0",        "1",        "2",        "4",         "5",        "8",         "00",       "01",
+                              "J",        "-0",       "1.",       "-0.5",      "1.23456789", "000000001.1", "20",   "21",
+                              "64",       "65",       "65535",    "65536",     "4294967295", "4294967296", "999999999999",
+                              "1000000000000", "20240229", "20250229", "00000229", "23:59:60", "24:00:00",  "12:00:00.00",
+                              "20250103-12:00:60.999", "ABCDEFGHIJKLMNOP", "ABCDEFGHIJKLMNOPQ", "BVMF", "FIX.4.4"};
+const int TAGS[] = {8, 9, 10, 22, 34, 35, 37, 48, 49, 52, 55, 207, 268, 269, 270, 271, 272, 273, 279, 290, 346, 369, 911};
+
+template <typename T, size_t N> const T &any(const T (&all)[N], Draw &draw) { return all[draw.below(N)]; }
+
+using Fields = std::vector<std::string>; // each with its SOH
+
+// The fields of a message between 35 and 10.
+Fields middle(const std::string &message) {
+    Fields fields;
+    for (size_t from = 0, end; from < message.size(); from = end + 1) {
+        end = message.find(SOH, from);
+        fields.push_back(message.substr(from, end + 1 - from));
+    }
+    return Fields(fields.begin() + 3, fields.end() - 1);
+}
+
+// Puts another value into the first field of a tag.
+void set(Fields &fields, int tag, uint64_t value) {
+    const std::string start = std::to_string(tag) + "=";
+    for (std::string &f : fields)
+        if (f.compare(0, start.size(), start) == 0) {
+            f = field(tag, std::to_string(value));
+            return;
+        }
+}
+
+void harm_fields(Fields &fields, Draw &draw) {
+    const size_t at = draw.below(static_cast<unsigned>(fields.size())), to = draw.below(static_cast<unsigned>(fields.size()));
+    const std::string one = fields[at];
+    switch (draw.below(6)) {
+    case 0: fields.erase(fields.begin() + static_cast<long>(at)); break;
+    case 1: fields.insert(fields.begin() + static_cast<long>(to), one); break;
+    case 2: std::swap(fields[at], fields[to]); break;
+    case 3: fields[at] = one.substr(0, one.find('=') + 1) + any(VALUES, draw) + SOH; break;
+    case 4: fields[at] = field(any(TAGS, draw), any(VALUES, draw)); break;
+    default: fields.insert(fields.begin() + static_cast<long>(to), field(any(TAGS, draw), any(VALUES, draw)));
+    }
+}
+
+void harm_bytes(std::string &message, Draw &draw) {
+    static const char BYTES[] = {'0', '1', '9', '=', SOH, '.', '-', ':', 'X', '\0', '\xff'};
+    const size_t at = draw.below(static_cast<unsigned>(message.size()));
+    switch (draw.below(4)) {
+    case 0: message.erase(at, 1); break;
+    case 1: message.insert(at, 1, any(BYTES, draw)); break;
+    case 2: message.resize(at); break;
+    default: message[at] = any(BYTES, draw);
+    }
+}
+
+// What messages are drawn from.
+struct Source {
+    Stream few, many;
+    std::string over; // a snapshot with 21 bids
+};
+
+std::string over_full(const std::string &snapshot) {
+    Fields fields = middle(snapshot);
+    set(fields, 268, 41);
+    std::string joined;
+    for (const std::string &f : fields) joined += f;
+    const auto start = std::find(fields.begin(), fields.end(), field(269, "0"));
+    const Fields first(start, std::find(start, fields.end(), field(290, "1")));
+    for (const std::string &f : first) joined += f;
+    return message('W', joined + field(290, "21"));
+}
+
+// The next message: an X, a snapshot or a heartbeat, numbered after what the board holds, and often harmed.
+std::string next(const Source &source, const plain_board &board, Draw &draw) {
+    const unsigned sort = draw.below(10);
+    const Stream &stream = draw.below(2) ? source.few : source.many;
+    const unsigned jump = draw.below(60), back = draw.below(3);
+    const uint64_t number = jump == 0 ? board.number + 2 : jump == 1 ? std::max<uint64_t>(board.number, 1) : board.number + 1;
+    char type = sort < 5 ? 'X' : sort < 9 ? 'W' : '0';
+    Fields fields = type == 'W' ? middle(draw.below(20) ? stream.snapshots[draw.below(INSTRUMENTS)] : source.over)
+                                : middle(stream.changes[draw.below(static_cast<unsigned>(stream.changes.size()))]);
+    if (type == '0') fields.resize(4);
+    if (type == 'W') {
+        set(fields, 369, back == 0 ? board.complete : back == 1 ? board.number : std::max<uint64_t>(board.number, 1) - 1);
+        if (draw.below(20) == 0) set(fields, 369, draw.below(2) ? board.number + 1 : std::max<uint64_t>(board.complete, 1) - 1);
+        if (draw.below(20) == 0) set(fields, 48, 7);
+    } else {
+        set(fields, 34, number);
+    }
+    if (draw.below(40) == 0) type = "AVfyB0"[draw.below(6)];
+    for (unsigned harms = draw.below(4); harms > 1; harms--) harm_fields(fields, draw);
+    std::string joined;
+    for (const std::string &f : fields) joined += f;
+    std::string bytes = message(type, joined);
+    if (draw.below(8) == 0) harm_bytes(bytes, draw);
+    return bytes;
+}
+
+} // namespace
+
+std::string disagreement(Depth depth, int messages, std::map<uint64_t, int> &answers) {
+    const Source source = [depth] {
+        Source made = {make_stream(depth, 200, 1), make_stream(depth, 50, 10), ""};
+        made.over = over_full(made.few.snapshots[0]);
+        return made;
+    }();
+    Draw draw;
+    Store store;
+    plain_board board;
+    const std::vector<uint64_t> &ids = source.few.ids;
+    selkavorn_open(store.data(), store.size(), depth, ids.data(), ids.size());
+    plain_open(&board, static_cast<plain_depth>(depth), ids.data(), ids.size());
+    for (int n = 1; n <= messages; n++) {
+        const std::string bytes = next(source, board, draw);
+        const uint8_t *const at = reinterpret_cast<const uint8_t *>(bytes.data());
+        const uint64_t ours = selkavorn_feed(store.data(), store.size(), at, bytes.size());
+        const uint64_t theirs = plain_feed(&board, at, bytes.size());
+        answers[SELKAVORN_ANSWER(ours)]++;
+        std::string differs;
+        if (ours != theirs) differs = "answered " + std::to_string(ours) + " and " + std::to_string(theirs);
+        else if (n % BETWEEN == 0 || n == messages) differs = difference(store, seen(board));
+        if (!differs.empty()) return "message " + std::to_string(n) + ": " + differs + ": " + bytes;
+    }
+    return "";
+}
