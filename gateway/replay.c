@@ -75,9 +75,10 @@ static void print_message(const struct board *board, const struct piece *message
     if (answer == SELKAVORN_GAP)
         print_missed(before->number + 1, value_number(message_first(message, "34")) - 1);
     if (is_reset(message, answer))
-        printf(is_repeated_reset(board, message) ? ", a sequence reset that was seen"
-                                                 : ", a sequence reset");
-    if (shows_lost_reset(board, message, answer))
+        fputs(is_repeated_reset(board, message) ? ", a sequence reset that was seen"
+                                                : ", a sequence reset",
+              stdout);
+    if (shows_lost_reset(before, message, answer))
         printf(", but sent after number %" PRIu64 ": a reset was lost", before->number);
     putchar('\n');
 }
@@ -125,7 +126,7 @@ static uint64_t feed(struct replay *replay, const struct piece *message)
         print_message(board, message, answered, &before);
     if (is_reset(message, answer))
         take_reset(replay, message);
-    if (!shows_lost_reset(board, message, answer))
+    if (!shows_lost_reset(&before, message, answer))
         return answer;
     if (replay->request->pass_resets) {
         board->lost_reset = true;

@@ -14,13 +14,11 @@ bool is_repeated_reset(const struct board *board, const struct piece *reset)
     return board->has_opened_at && message_time(reset, &sent_ms) && sent_ms <= board->opened_at_ms;
 }
 
-bool shows_lost_reset(const struct board *board, const struct piece *message, uint64_t answer)
+bool shows_lost_reset(const struct heading *heard, const struct piece *message, uint64_t answer)
 {
     int64_t sent_ms;
-    if (answer != SELKAVORN_OLD || !message_time(message, &sent_ms))
-        return false;
-    struct heading heard = board_heading(board);
-    return sent_ms > moment_ms(heard.date, heard.time);
+    return answer == SELKAVORN_OLD && message_time(message, &sent_ms) &&
+           sent_ms > moment_ms(heard->date, heard->time);
 }
 
 bool is_of_before(const struct board *board, const struct piece *message)

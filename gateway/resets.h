@@ -15,8 +15,9 @@ bool is_reset(const struct piece *message, uint64_t answer);
 /* Says whether the reset is one that opened the board already, or came before that one. */
 bool is_repeated_reset(const struct board *board, const struct piece *reset);
 
-/* Says whether a message and its answer show that a reset was lost. */
-bool shows_lost_reset(const struct board *board, const struct piece *message, uint64_t answer);
+/* Says whether a message and its answer show that a reset was lost. `heard` is what the board has
+ * counted, which an old message leaves as it was. */
+bool shows_lost_reset(const struct heading *heard, const struct piece *message, uint64_t answer);
 
 /* Says whether a message was sent before the reset that opened the board: its number, or the one in
  * its 369, is of the numbers before. */
