@@ -29,6 +29,8 @@ static const char HELP[] =
     "                         fed by their times, its other messages left out\n"
     "  --resets open|pass     at a sequence reset (35=4), also one that was lost,\n"
     "                         open the board afresh, or not; open unless given\n"
+    "  --silence SECONDS      take a longer silence before the very next number for a\n"
+    "                         lost reset, 1 to 86400; none is unless given\n"
     "replay:\n"
     "  --instruments ID[=NAME][,ID[=NAME]..]\n"
     "                         1 to 16 SecurityIDs to follow; unless given, those\n"

@@ -65,7 +65,7 @@ static void print_label(const struct piece *message)
 }
 
 /* Prints the line of a message. `before` is what the board had counted before it. */
-static void print_message(const struct board *board, const struct piece *message,
+static void print_message(const struct replay *replay, const struct piece *message,
                           uint64_t answered, const struct heading *before)
 {
     uint64_t answer = SELKAVORN_ANSWER(answered);
@@ -75,11 +75,13 @@ static void print_message(const struct board *board, const struct piece *message
     if (answer == SELKAVORN_GAP)
         print_missed(before->number + 1, value_number(message_first(message, "34")) - 1);
     if (is_reset(message, answer))
-        fputs(is_repeated_reset(board, message) ? ", a sequence reset that was seen"
+        fputs(is_repeated_reset(replay->board, message) ? ", a sequence reset that was seen"
                                                 : ", a sequence reset",
               stdout);
-    if (shows_lost_reset(before, message, answer))
-        printf(", but sent after number %" PRIu64 ": a reset was lost", before->number);
+    if (shows_lost_reset(replay->request, before, message, answer))
+        printf(answer == SELKAVORN_OLD ? ", but sent after number %" PRIu64 ": a reset was lost"
+                                       : ", but long after number %" PRIu64 ": a reset was lost",
+               before->number);
     putchar('\n');
 }
 
@@ -123,10 +125,10 @@ static uint64_t feed(struct replay *replay, const struct piece *message)
     uint64_t answer = SELKAVORN_ANSWER(answered);
     remember(replay, message, answer);
     if (!replay->request->quote_only)
-        print_message(board, message, answered, &before);
+        print_message(replay, message, answered, &before);
     if (is_reset(message, answer))
         take_reset(replay, message);
-    if (!shows_lost_reset(&before, message, answer))
+    if (!shows_lost_reset(replay->request, &before, message, answer))
         return answer;
     if (replay->request->pass_resets) {
         board->lost_reset = true;

@@ -7,7 +7,7 @@
 
 /* The exchange sends a heartbeat after 10 silent seconds and calls a stream of 30 silent seconds
  * not functional (its specification, 5.1.1), so an older quote is not given unless asked for. */
-enum { USUAL_LIMIT_S = 30 };
+enum { USUAL_LIMIT_S = 30, LONGEST_SILENCE_S = 86400 };
 
 _Noreturn void bad_use(const char *what, const char *word)
 {
@@ -99,6 +99,13 @@ static void take_limit(struct request *request, const char *value)
         bad_use("not a limit of 0 to 86400 seconds", value);
 }
 
+static void take_silence(struct request *request, const char *value)
+{
+    if (!read_number(value, strlen(value), 5, &request->silence_s) || request->silence_s < 1 ||
+        request->silence_s > LONGEST_SILENCE_S)
+        bad_use("not a silence of 1 to 86400 seconds", value);
+}
+
 static void take_resets(struct request *request, const char *value)
 {
     request->pass_resets = read_choice(value, "open", "pass", "resets are open or pass");
@@ -175,6 +182,7 @@ static const struct option {
 } OPTIONS[] = {
     {"--depth", EITHER, true, take_depth},
     {"--resets", EITHER, true, take_resets},
+    {"--silence", EITHER, true, take_silence},
     {"--snapshots", EITHER, true, take_snapshots},
     {"--instruments", COMMAND_REPLAY, true, take_instruments},
     {"--now", COMMAND_REPLAY, true, take_now},

@@ -29,6 +29,7 @@ struct request {
     const char *now;       /* the moment of the quotes, or NULL for the latest in the recording */
     uint64_t depth;        /* of enum selkavorn_depth */
     uint64_t limit_s;      /* the age of a quote that is still good */
+    uint64_t silence_s;    /* a longer silence is taken for a lost reset; 0: none is */
     enum form form;
     bool quote_only;  /* no line for each message */
     bool pass_resets; /* a sequence reset, seen or lost, does not open the board afresh */

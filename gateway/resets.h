@@ -15,9 +15,11 @@ bool is_reset(const struct piece *message, uint64_t answer);
 /* Says whether the reset is one that opened the board already, or came before that one. */
 bool is_repeated_reset(const struct board *board, const struct piece *reset);
 
-/* Says whether a message and its answer show that a reset was lost. `heard` is what the board has
- * counted, which an old message leaves as it was. */
-bool shows_lost_reset(const struct heading *heard, const struct piece *message, uint64_t answer);
+/* Says whether a message and its answer show that a reset was lost, or are taken for that: it is
+ * the very next number, after a longer silence than the request allows. `before` is what the board
+ * had counted before the message. */
+bool shows_lost_reset(const struct request *request, const struct heading *before,
+                      const struct piece *message, uint64_t answer);
 
 /* Says whether a message was sent before the reset that opened the board: its number, or the one in
  * its 369, is of the numbers before. */
