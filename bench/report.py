@@ -55,11 +55,12 @@ NOTES = """\
   queue is compared too. Before anything is timed, the plain reader is asked 20,000 messages, many lost, repeated or harmed: it
   must give the same answer to each, every answer of a feed must come, and the books must stay the same. The run fails where
   anything differs.
-- The store starts at an address that 64 divides, as a line of the cache does (`bench/store.hpp`).
+- The store starts at an address that 64 divides, as a line of the cache does (`bench/store.hpp`). A time depends on where in
+  memory it lies, so each round takes the next of eight copies; a scan and its loop have the same one.
 - A time is the processor's time of the thread, by round, divided by the calls of the round; the rounds of the rows take turns. A
-  repetition is a run of the program, with addresses of its own, and its time is the median of its rounds. A table has the
-  median of the repetitions, the lowest and the highest of them, and how far those lie apart. A run in which that is above {most} in
-  any row that is timed is not kept, unless it is asked for; what lies beyond the scan is a difference of two such rows.
+  repetition is a run of the program, with addresses of its own, and its time is the mean of the middle half of its rounds. A table
+  has the median of the repetitions, the lowest and the highest of them, and how far those lie apart. A run in which that is above
+  {most} in any row that is timed is not kept, unless it is asked for; what lies beyond the scan is a difference of two such rows.
 - Instructions are those that callgrind counts in one round, on the same machine.
 - A call's stack is the deepest byte that it wrote below its caller's frame, in the calls of `bench/stack.c`. It is measured, not a
   bound.
@@ -253,4 +254,5 @@ def main():
     sys.stdout.write("\n".join(page(sys.argv[1], runs)))
 
 
-main()
+if __name__ == "__main__":
+    main()
