@@ -21,11 +21,10 @@
 
 namespace {
 
-constexpr int WARM_UP = 5; // rounds
 constexpr int ENTRIES_A_ROUND = 1024;
 constexpr int QUEUE = 256;         // entries that fill the queue
 constexpr int CALLS_A_ROUND = 256; // of a call that takes no stream
-constexpr size_t COPIES = 8;       // of a store, at places of their own in memory
+constexpr size_t COPIES = 31;      // of a store, at places of their own in memory; a round takes two, so all have their turn
 constexpr int AGREED = 10000;      // messages that both readers are asked, a depth kind
 
 [[noreturn]] void fail(const std::string &what) {
@@ -91,7 +90,7 @@ Start start(const Case &c, const FIX::DataDictionary &dictionary) {
     return s;
 }
 
-// Copies of a store or a board. A time depends on where in memory it lies, so each round takes the next one.
+// Copies of a store or a board. A time depends on where in memory it lies, so each round takes other ones.
 template <typename Keeper> class Copies {
   public:
     explicit Copies(const Keeper &of) : all(COPIES, of) {}
@@ -300,15 +299,18 @@ double middle_mean(std::vector<double> &values) {
     return std::accumulate(from, to, 0.0) / static_cast<double>(to - from);
 }
 
-// Times the rounds in turn, so that what else the machine does falls on all alike.
+// Times the rounds in turn, so that what else the machine does falls on all alike. What a round needs is in the caches: it is done
+// once before it is timed.
 void time_all(std::vector<Measured> &all, int rounds) {
-    for (int round = -WARM_UP; round < rounds; round++)
+    for (int round = 0; round < rounds; round++)
         for (Measured &m : all) {
+            m.ready();
+            do_round(m);
             m.ready();
             double from = thread_ns();
             do_round(m);
             double to = thread_ns();
-            if (round >= 0) m.ns.push_back((to - from) / static_cast<double>(m.calls));
+            m.ns.push_back((to - from) / static_cast<double>(m.calls));
         }
     for (Measured &m : all) std::printf("%s\t%.1f\n", m.what.c_str(), middle_mean(m.ns));
     std::fflush(stdout);

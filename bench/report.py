@@ -56,9 +56,10 @@ NOTES = """\
   must give the same answer to each, every answer of a feed must come, and the books must stay the same. The run fails where
   anything differs.
 - The store starts at an address that 64 divides, as a line of the cache does (`bench/store.hpp`). A time depends on where in
-  memory it lies, so each round takes the next of eight copies; a scan and its loop have the same one.
-- A time is the processor's time of the thread, by round, divided by the calls of the round; the rounds of the rows take turns. A
-  repetition is a run of the program, with addresses of its own, and its time is the mean of the middle half of its rounds. A table
+  memory it lies, so each round takes another of 31 copies; a scan and its loop have the same one. The proved code starts at such an
+  address too (`bench/align.c`): in another program it may lie less well, or better.
+- A time is the processor's time of the thread, by round, divided by the calls of the round; the rounds of the rows take turns, and
+  each is done once before it is timed, so that what it needs is in the caches. A repetition is a run of the program, with addresses of its own, and its time is the mean of the middle half of its rounds. A table
   has the median of the repetitions, the lowest and the highest of them, and how far those lie apart. A run in which that is above
   {most} in any row that is timed is not kept, unless it is asked for; what lies beyond the scan is a difference of two such rows.
 - Instructions are those that callgrind counts in one round, on the same machine.
