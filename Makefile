@@ -1,5 +1,6 @@
-# `make run` builds all and replays the sample; `make test` proves and tests all; `make bench` measures beside QuickFIX.
-.PHONY: run test bench
+# `make run` builds all and replays the sample; `make test` proves and tests all; `make bench` measures beside QuickFIX;
+# `make install` takes PREFIX and DESTDIR; `make pictures` draws docs/pictures anew.
+.PHONY: run test bench install pictures
 run:
 	@./scripts/build-gateway
 	@./scripts/run-program target/c/selkavorn replay --instruments 3809512,3809644,3810077 target/c/morning.fix
@@ -7,3 +8,7 @@ test:
 	@./scripts/test
 bench:
 	@./scripts/bench
+install:
+	@PREFIX="$(PREFIX)" DESTDIR="$(DESTDIR)" ./scripts/install-files
+pictures:
+	@./scripts/pictures

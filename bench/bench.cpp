@@ -224,6 +224,11 @@ bool state(const Store &store, uint64_t id) {
     return selkavorn_state(store.data(), store.size(), id, numbers, SELKAVORN_STATE_NUMBERS) == SELKAVORN_DONE;
 }
 
+bool summary(const Store &store) {
+    uint64_t numbers[SELKAVORN_BOARD_NUMBERS];
+    return selkavorn_board(store.data(), store.size(), numbers, SELKAVORN_BOARD_NUMBERS) == SELKAVORN_DONE;
+}
+
 // The other calls, on full books. A snapshot sets a book of 40 places.
 void measure_others(Depth depth, const FIX::DataDictionary &dictionary, const Measure &measure) {
     const Case c = {depth, 0, 0};
@@ -250,6 +255,7 @@ void measure_others(Depth depth, const FIX::DataDictionary &dictionary, const Me
         {columns(c, 0, "quote"), CALLS_A_ROUND, nothing, again([&] { return quote(s.store, id); }), {}},
         {columns(c, 0, "write"), CALLS_A_ROUND, nothing, again([&] { return write(s.store, id); }), {}},
         {columns(c, 0, "state"), CALLS_A_ROUND, nothing, again([&] { return state(s.store, id); }), {}},
+        {columns(c, 0, "board"), CALLS_A_ROUND, nothing, again([&] { return summary(s.store); }), {}},
     };
     measure(all);
     check_same(c, *stores, "the plain board", seen(*plains));

@@ -48,6 +48,8 @@ static void write_book(void)
 
 static void state(void) { answered = selkavorn_state(store, SELKAVORN_STORE_NUMBERS, FIRST_ID, numbers, SELKAVORN_QUOTE_NUMBERS); }
 
+static void summary(void) { answered = selkavorn_board(store, SELKAVORN_STORE_NUMBERS, numbers, SELKAVORN_QUOTE_NUMBERS); }
+
 static void (*call)(void);
 static volatile uintptr_t caller;
 
@@ -145,6 +147,7 @@ static void show_one_followed(void)
     show("quote", quote, "done", SELKAVORN_DONE);
     show("write", write_book, "40 places", SELKAVORN_DONE);
     show("state", state, "done", SELKAVORN_DONE);
+    show("board", summary, "done", SELKAVORN_DONE);
     say_x(3, MOST_ENTRIES, 0, 0);
     show_feed("an X of 64 that breaks", SELKAVORN_DONE, 0);
     say_x(2, MOST_ENTRIES, 1, 0);

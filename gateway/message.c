@@ -3,6 +3,8 @@
 
 #include <string.h>
 
+#include "words.h"
+
 struct value message_value(const struct piece *message, const char *tag, size_t *from)
 {
     size_t tag_bytes = strlen(tag);
@@ -45,6 +47,36 @@ uint64_t value_number(struct value value)
         number = number * 10 + (uint64_t)(value.bytes[i] - '0');
     }
     return number;
+}
+
+bool value_is_moment(struct value value)
+{
+    static const char shape[] = "00000000-00:00:00.000";
+    enum { SHORT = sizeof "00000000-00:00:00" - 1, LONG = sizeof shape - 1 };
+    if (value.length != SHORT && value.length != LONG)
+        return false;
+    for (size_t i = 0; i < value.length; i++) {
+        bool digit = value.bytes[i] >= '0' && value.bytes[i] <= '9';
+        if (shape[i] == '0' ? !digit : value.bytes[i] != shape[i])
+            return false;
+    }
+    return true;
+}
+
+/* FIX 4.4 gives a message that is sent once more a new 52 and its first one in 122; where that is
+ * not known, 122 is as 52. */
+bool message_time(const struct piece *message, int64_t *ms)
+{
+    char text[MOMENT_TEXT] = "";
+    struct value again = message_first(message, "43"), sent = message_first(message, "52");
+    struct value first = message_first(message, "122");
+    if (again.length == 1 && again.bytes[0] == 'Y' && value_is_moment(first))
+        sent = first;
+    if (!value_is_moment(sent))
+        return false;
+    memcpy(text, sent.bytes, sent.length);
+    *ms = text_ms(text);
+    return true;
 }
 
 const char *value_words(struct value value, char text[VALUE_TEXT])

@@ -30,6 +30,13 @@ bool message_names_instruments(const struct piece *message);
 /* The number that a value of up to 18 digits writes; 0 for any other value. */
 uint64_t value_number(struct value value);
 
+/* Says whether a value is shaped as tag 52; whether there is such a day is not asked. */
+bool value_is_moment(struct value value);
+
+/* Sets the message's own time in milliseconds: that of tag 52, or of 122 where the message says
+ * that it is sent once more (43=Y) and 122 stands. False where it has none. */
+bool message_time(const struct piece *message, int64_t *ms);
+
 /* A value as text: what cannot be printed becomes a question mark, a missing value a minus, and
  * what is too long is cut. */
 const char *value_words(struct value value, char text[VALUE_TEXT]);

@@ -1,96 +1,91 @@
-/* The table of quotes. No price is printed without the moment at which it was heard. */
+/* The quotes of all instruments of a board. */
+#include "quotes.h"
+
 #include <inttypes.h>
 #include <stdio.h>
 #include <string.h>
 
 #include "replay.h"
 
-enum { AGE_TEXT = 32 };
-static const char ROW[] = "%-12s  %-5s  %-10s  %-12s  %-21s  %-10s  %-8s  %-16s  %s\n";
-
-/* The moment at which the quotes are asked for. */
-static const char *now_of(const struct board *board, const struct request *request)
+/* Asks for one instrument's quote; a Waiting one is asked why. */
+static void take_quote(const struct board *board, const struct request *request, const char *now,
+                       struct quoted *quoted)
 {
-    return request->now != NULL ? request->now : board->latest;
-}
-
-static void print_heading(const struct board *board, const struct request *request)
-{
-    if (request->now != NULL)
-        printf("\nQuotes at %s, the moment given by --now", request->now);
-    else if (board->latest[0] != '\0')
-        printf("\nQuotes at %s, the latest time in the recording, since --now was not given",
-               board->latest);
-    else
-        printf("\nQuotes: the recording has no time in it, and --now was not given");
-    printf("; limit %" PRIu64 " s\n", request->limit_s);
-    if (board->number > 0)
-        printf("Last counted: number %" PRIu64 ", sent %s\n", board->number, board->heard);
-    printf(ROW, "instrument", "side", "price", "size", "heard", "age", "number",
-           request->depth == SELKAVORN_ORDER_DEPTH ? "order" : "orders", "entered");
-}
-
-/* Prints one side of a quote. */
-static void print_side(const struct request *request, const char *id, const char *name,
-                       const uint64_t *quote, const uint64_t *side, const char *now)
-{
-    char price[PRICE_TEXT] = "empty", size[ORDER_TEXT] = "-", order[ORDER_TEXT] = "-";
-    char entered[MOMENT_TEXT] = "-", heard[MOMENT_TEXT], number[ORDER_TEXT], age[AGE_TEXT];
-    uint64_t date = quote[SELKAVORN_QUOTE_HEARD_DATE], time = quote[SELKAVORN_QUOTE_HEARD_TIME];
-    int64_t age_ms = text_ms(now) - moment_ms(date, time);
-    if (side[SELKAVORN_SIDE_HELD] == 1) {
-        price_words(side[SELKAVORN_SIDE_PRICE], price);
-        snprintf(size, sizeof size, "%" PRIu64, side[SELKAVORN_SIDE_SIZE]);
-        moment_words(side[SELKAVORN_SIDE_DATE], side[SELKAVORN_SIDE_TIME], entered);
-        if (request->depth == SELKAVORN_ORDER_DEPTH)
-            order_words(side[SELKAVORN_SIDE_BY], side[SELKAVORN_SIDE_MORE], order);
-        else
-            snprintf(order, sizeof order, "%" PRIu64, side[SELKAVORN_SIDE_BY]);
-    }
-    moment_words(date, time, heard);
-    snprintf(number, sizeof number, "%" PRIu64, quote[SELKAVORN_QUOTE_NUMBER]);
-    snprintf(age, sizeof age, "%" PRId64 ".%03" PRId64 " s", age_ms / 1000, age_ms % 1000);
-    printf(ROW, id, name, price, size, heard, age, number, order, entered);
-}
-
-/* Prints why there is no quote. */
-static void print_refusal(const struct board *board, const char *id, uint64_t answer)
-{
-    printf("%-12s  %s", id, answer_words(answer));
-    if (answer == SELKAVORN_AGE_BELOW || answer == SELKAVORN_AGE_ABOVE)
-        printf(" (heard %s as number %" PRIu64 ")\n", board->heard, board->number);
-    else
-        printf(" (answer %" PRIu64 ")\n", answer);
-}
-
-static void print_quote(const struct board *board, const struct request *request,
-                        uint64_t instrument)
-{
-    uint64_t state[SELKAVORN_STATE_NUMBERS] = {0}, quote[SELKAVORN_QUOTE_NUMBERS] = {0};
-    const char *now = now_of(board, request);
-    char id[ORDER_TEXT];
-    snprintf(id, sizeof id, "%" PRIu64, instrument);
-    uint64_t answer = selkavorn_state(board->store, SELKAVORN_STORE_NUMBERS, instrument, state,
-                                      SELKAVORN_STATE_NUMBERS);
-    if (answer == SELKAVORN_DONE && state[SELKAVORN_STATE_WAITING] == 1) {
-        printf("%-12s  Waiting (%s)\n", id, waiting_words(state[SELKAVORN_STATE_REASON]));
+    uint64_t state[SELKAVORN_STATE_NUMBERS] = {0};
+    quoted->answer = selkavorn_state(board->store, SELKAVORN_STORE_NUMBERS, quoted->id, state,
+                                     SELKAVORN_STATE_NUMBERS);
+    if (quoted->answer != SELKAVORN_DONE)
         return;
-    }
-    if (answer == SELKAVORN_DONE)
-        answer = selkavorn_quote(board->store, SELKAVORN_STORE_NUMBERS, instrument,
-                                 (const uint8_t *)now, strlen(now), request->limit_s, quote,
-                                 SELKAVORN_QUOTE_NUMBERS);
-    if (answer != SELKAVORN_DONE) {
-        print_refusal(board, id, answer);
-        return;
-    }
-    print_side(request, id, "bid", quote, quote + SELKAVORN_QUOTE_BID, now);
-    print_side(request, id, "offer", quote, quote + SELKAVORN_QUOTE_OFFER, now);
+    quoted->answer = SELKAVORN_WAITING;
+    quoted->reason = waiting_words(state[SELKAVORN_STATE_REASON]);
+    if (state[SELKAVORN_STATE_WAITING] == 0)
+        quoted->answer = selkavorn_quote(board->store, SELKAVORN_STORE_NUMBERS, quoted->id,
+                                         (const uint8_t *)now, strlen(now), request->limit_s,
+                                         quoted->numbers, SELKAVORN_QUOTE_NUMBERS);
 }
 
-void print_quotes(const struct board *board, const struct request *request)
+void take_quotes(const struct board *board, const struct request *request, struct quotes *quotes)
 {
-    print_heading(board, request);
-    for (size_t i = 0; i < request->ids_n; i++)
-        print_quote(board, request, request->ids[i]);
+    *quotes = (struct quotes){.now = request->now != NULL ? request->now : board->latest,
+                              .now_given = request->now != NULL,
+                              .lost_reset = board->lost_reset,
+                              .heading = board_heading(board),
+                              .n = request->ids_n};
+    if (quotes->now[0] != '\0' && quotes->heading.number > 0)
+        quotes->age_ms =
+            text_ms(quotes->now) - moment_ms(quotes->heading.date, quotes->heading.time);
+    for (size_t i = 0; i < quotes->n; i++) {
+        struct quoted *quoted = &quotes->of[i];
+        quoted->id = request->ids[i];
+        quoted->name = request->names[i][0] != '\0' ? request->names[i] : board->names[i];
+        take_quote(board, request, quotes->now, quoted);
+        quotes->given += is_given(quotes, quoted);
+    }
+}
+
+bool is_given(const struct quotes *quotes, const struct quoted *quoted)
+{
+    return !quotes->lost_reset && quoted->answer == SELKAVORN_DONE;
+}
+
+const char *why_words(const struct quotes *quotes, const struct quoted *quoted,
+                      char text[WHY_TEXT])
+{
+    if (quotes->lost_reset)
+        return "a sequence reset was lost";
+    if (quoted->answer == SELKAVORN_DONE)
+        return "quote";
+    if (quoted->answer != SELKAVORN_WAITING)
+        return selkavorn_answer_text(quoted->answer);
+    snprintf(text, WHY_TEXT, "%s, %s", selkavorn_answer_text(quoted->answer), quoted->reason);
+    return text;
+}
+
+void side_words(const struct request *request, const uint64_t *side, struct side_words *words)
+{
+    *words = (struct side_words){.held = side[SELKAVORN_SIDE_HELD] == 1};
+    if (!words->held)
+        return;
+    price_words(side[SELKAVORN_SIDE_PRICE], words->price);
+    snprintf(words->size, sizeof words->size, "%" PRIu64, side[SELKAVORN_SIDE_SIZE]);
+    moment_words(side[SELKAVORN_SIDE_DATE], side[SELKAVORN_SIDE_TIME], words->entered);
+    if (request->depth == SELKAVORN_ORDER_DEPTH)
+        order_words(side[SELKAVORN_SIDE_BY], side[SELKAVORN_SIDE_MORE], words->order);
+    else
+        snprintf(words->orders, sizeof words->orders, "%" PRIu64, side[SELKAVORN_SIDE_BY]);
+}
+
+enum status print_quotes(const struct board *board, const struct request *request)
+{
+    static struct quotes quotes;
+    take_quotes(board, request, &quotes);
+    if (request->form == FORM_CSV)
+        print_csv(&quotes, request);
+    else if (request->form == FORM_JSON)
+        print_json(&quotes, request);
+    else
+        print_table(&quotes, request);
+    if (quotes.lost_reset)
+        return STATUS_LOST_RESET;
+    return quotes.given > 0 ? STATUS_GOOD : STATUS_NO_QUOTE;
 }

@@ -25,6 +25,7 @@ struct piece {
     uint64_t length;      /* in bytes */
     const uint8_t *bytes; /* of a message, until the next call */
     enum passed why;      /* of passed bytes */
+    bool of_snapshots;    /* it stands in the recording of the snapshot stream */
 };
 
 /* A recording being walked. The bytes at hand are bytes[start] to bytes[end - 1]. */

@@ -6,49 +6,32 @@
 #include <string.h>
 
 #include "message.h"
+#include "names.h"
 #include "progress.h"
 #include "recording.h"
+#include "resets.h"
 
 enum { NUMBER_TEXT = 64 };
 
-/* What was read, for the line at the end. */
+/* What was read, for the lines at the end. */
 struct totals {
     uint64_t messages;
     uint64_t runs, passed;   /* runs of passed bytes, and their bytes */
     uint64_t fields_refused; /* messages answered SELKAVORN_FIELDS */
     uint64_t well_formed;    /* X and W messages answered 0 to 10 */
-    uint64_t resets;         /* sequence resets that were passed over */
+    uint64_t resets_passed;  /* sequence resets that were passed over */
+    uint64_t resets_lost;    /* openings because a sequence reset was lost */
+    uint64_t of_before;      /* messages that were sent before a reset, and not fed */
 };
 
-uint64_t board_open(struct board *board, const struct request *request)
-{
-    board->number = 0;
-    return selkavorn_open(board->store, SELKAVORN_STORE_NUMBERS, request->depth, request->ids,
-                          request->ids_n);
-}
+struct replay {
+    struct board *board;
+    const struct request *request;
+    struct streams *streams;
+    struct totals totals;
+};
 
 /* ---- one message ---- */
-
-static bool is_counted(uint64_t answer)
-{
-    return answer == SELKAVORN_DONE || answer == SELKAVORN_GAP || answer == SELKAVORN_LET_GO;
-}
-
-bool is_well_formed(uint64_t answer)
-{
-    return answer < SELKAVORN_FRAME;
-}
-
-bool may_hold_another(uint64_t answer)
-{
-    return answer == SELKAVORN_FRAME || answer == SELKAVORN_CHECKSUM;
-}
-
-/* A sequence reset, of a type that the library does not know. */
-static bool is_reset(const struct piece *message, uint64_t answer)
-{
-    return answer == SELKAVORN_TYPE && message_has_type(message, '4');
-}
 
 static void print_missed(uint64_t first, uint64_t last)
 {
@@ -58,9 +41,16 @@ static void print_missed(uint64_t first, uint64_t last)
     printf(" missed");
 }
 
-/* Prints the line of a message. `before` is the last counted number before it. */
-static void print_message(const struct piece *message, uint64_t answer, uint64_t waiting,
-                          uint64_t before)
+/* Prints the place of a piece, behind an S where it is in the recording of the snapshot stream. */
+static void print_place(const struct piece *piece)
+{
+    char place[NUMBER_TEXT];
+    snprintf(place, sizeof place, "%s%" PRIu64, piece->of_snapshots ? "S" : "", piece->place);
+    printf("%10s", place);
+}
+
+/* Prints a message's place, type and number. */
+static void print_label(const struct piece *message)
 {
     char type[VALUE_TEXT], first[VALUE_TEXT], second[VALUE_TEXT], number[NUMBER_TEXT];
     value_words(message_first(message, "35"), type);
@@ -70,46 +60,94 @@ static void print_message(const struct piece *message, uint64_t answer, uint64_t
                  value_words(message_first(message, "369"), second));
     else
         snprintf(number, sizeof number, "34=%s", value_words(message_first(message, "34"), first));
-    printf("%10" PRIu64 "  %-4s  %-24s  %7" PRIu64 "  ", message->place, type, number, waiting);
-    printf("%2" PRIu64 " %s", answer, answer_words(answer));
-    if (answer == SELKAVORN_GAP)
-        print_missed(before + 1, value_number(message_first(message, "34")) - 1);
-    puts(is_reset(message, answer) ? ", a sequence reset" : "");
+    print_place(message);
+    printf("  %-4s  %-24s  ", type, number);
 }
 
-/* Remembers the number and the time of a message that was well-formed. */
-static void remember(struct board *board, const struct piece *message, uint64_t answer)
+/* Prints the line of a message. `before` is what the board had counted before it. */
+static void print_message(const struct board *board, const struct piece *message,
+                          uint64_t answered, const struct heading *before)
+{
+    uint64_t answer = SELKAVORN_ANSWER(answered);
+    print_label(message);
+    printf("%7" PRIu64 "  %2" PRIu64 " %s", SELKAVORN_WAITING_COUNT(answered), answer,
+           selkavorn_answer_text(answer));
+    if (answer == SELKAVORN_GAP)
+        print_missed(before->number + 1, value_number(message_first(message, "34")) - 1);
+    if (is_reset(message, answer))
+        fputs(is_repeated_reset(board, message) ? ", a sequence reset that was seen"
+                                                : ", a sequence reset",
+              stdout);
+    if (shows_lost_reset(before, message, answer))
+        printf(", but sent after number %" PRIu64 ": a reset was lost", before->number);
+    putchar('\n');
+}
+
+/* Remembers the latest time and the names of the messages that were well-formed. */
+static void remember(struct replay *replay, const struct piece *message, uint64_t answer)
 {
     char time[MOMENT_TEXT] = "";
+    struct board *board = replay->board;
     struct value sent = message_first(message, "52");
-    if (!is_well_formed(answer) || sent.length >= MOMENT_TEXT)
+    if (!is_well_formed(answer) || !value_is_moment(sent))
         return;
+    take_names(board, replay->request, message);
     memcpy(time, sent.bytes, sent.length);
     if (board->latest[0] == '\0' || text_ms(time) > text_ms(board->latest))
         strcpy(board->latest, time);
-    if (is_counted(answer)) {
-        strcpy(board->heard, time);
-        board->number = value_number(message_first(message, "34"));
-    }
+}
+
+static void open_afresh(struct replay *replay, const struct piece *message)
+{
+    open_at_reset(replay->board, replay->request, message);
+    if (!replay->request->quote_only)
+        printf("%10s  the board is opened afresh, and all are Waiting\n", "");
+}
+
+/* Does what a reset asks for, one that is seen. */
+static void take_reset(struct replay *replay, const struct piece *reset)
+{
+    if (replay->request->pass_resets)
+        replay->totals.resets_passed++;
+    else if (!is_repeated_reset(replay->board, reset))
+        open_afresh(replay, reset);
 }
 
 /* Feeds one message and gives the answer. */
-static uint64_t feed(struct board *board, const struct request *request,
-                     const struct piece *message)
+static uint64_t feed(struct replay *replay, const struct piece *message)
 {
-    uint64_t before = board->number;
+    struct board *board = replay->board;
+    struct heading before = board_heading(board);
     uint64_t answered = selkavorn_feed(board->store, SELKAVORN_STORE_NUMBERS, message->bytes,
                                        (size_t)message->length);
-    uint64_t answer = SELKAVORN_ANSWER(answered), waiting = SELKAVORN_WAITING_COUNT(answered);
-    remember(board, message, answer);
-    if (!request->quote_only)
-        print_message(message, answer, waiting, before);
-    if (is_reset(message, answer) && !request->pass_resets) {
-        board_open(board, request);
-        if (!request->quote_only)
-            printf("%10s  the board is opened afresh, and all are Waiting\n", "");
+    uint64_t answer = SELKAVORN_ANSWER(answered);
+    remember(replay, message, answer);
+    if (!replay->request->quote_only)
+        print_message(board, message, answered, &before);
+    if (is_reset(message, answer))
+        take_reset(replay, message);
+    if (!shows_lost_reset(&before, message, answer))
+        return answer;
+    if (replay->request->pass_resets) {
+        board->lost_reset = true;
+        return answer;
     }
-    return answer;
+    replay->totals.resets_lost++;
+    open_afresh(replay, message);
+    return feed(replay, message); /* a fresh board finds nothing old */
+}
+
+/* A well-formed message of before the reset is not fed: its number would be taken for a new one. */
+static bool leave_out(struct replay *replay, const struct piece *message)
+{
+    if (!is_of_before(replay->board, message) || !is_well_formed(judge(replay->request, message)))
+        return false;
+    replay->totals.of_before++;
+    if (!replay->request->quote_only) {
+        print_label(message);
+        printf("%7s  %2s not fed: sent before the sequence reset\n", "-", "-");
+    }
+    return true;
 }
 
 /* ---- the whole recording ---- */
@@ -122,18 +160,37 @@ static void print_passed(const struct piece *run)
         [PASSED_TOO_LONG] = "tag 9 says more than 8,192 bytes for a message",
         [PASSED_CUT_OFF] = "the recording ends before the message does",
     };
-    printf("%10" PRIu64 "  %" PRIu64 " bytes passed over: %s\n", run->place, run->length,
-           why[run->why]);
+    print_place(run);
+    printf("  %" PRIu64 " bytes passed over: %s\n", run->length, why[run->why]);
 }
 
-static void print_totals(const struct totals *totals)
+/* Says what was read. Where standard output is for a machine, only what a person must know is said,
+ * on standard error. */
+static void print_totals(const struct replay *replay)
 {
-    printf("Messages: %" PRIu64 ". Bytes passed over: %" PRIu64 ", in runs: %" PRIu64 ".\n",
-           totals->messages, totals->passed, totals->runs);
-    if (totals->resets > 0)
-        printf("Sequence resets passed over: %" PRIu64 ". If one was of the incremental stream, the "
-               "quotes are wrong.\n",
-               totals->resets);
+    const struct totals *totals = &replay->totals;
+    bool is_table = replay->request->command == COMMAND_REPLAY &&
+                    replay->request->form == FORM_TABLE;
+    FILE *to = is_table ? stdout : stderr;
+    if (is_table)
+        printf("Messages: %" PRIu64 ". Bytes passed over: %" PRIu64 ", in runs: %" PRIu64 ".\n",
+               totals->messages, totals->passed, totals->runs);
+    if (is_table && replay->request->snapshots != NULL)
+        printf("Messages of the snapshot stream that are no snapshots, left out: %" PRIu64 ".\n",
+               replay->streams->left_out);
+    if (totals->resets_passed > 0)
+        fprintf(to,
+                "Sequence resets passed over: %" PRIu64 ". If one was of the incremental stream, "
+                "the quotes are\nwrong.\n",
+                totals->resets_passed);
+    if (totals->resets_lost > 0)
+        fprintf(to,
+                "Sequence resets lost: %" PRIu64 ". The board was opened afresh where that "
+                "showed.\n",
+                totals->resets_lost);
+    if (totals->of_before > 0)
+        fprintf(to, "Messages sent before a sequence reset, not fed: %" PRIu64 ".\n",
+                totals->of_before);
     fflush(stdout);
     if (totals->fields_refused > totals->well_formed)
         fprintf(stderr,
@@ -143,58 +200,47 @@ static void print_totals(const struct totals *totals)
 }
 
 /* Feeds one piece of the recording to the board. */
-static void take_piece(struct board *board, const struct request *request,
-                       struct recording *recording, const struct piece *piece,
-                       struct totals *totals)
+static void take_piece(struct replay *replay, const struct piece *piece)
 {
+    struct totals *totals = &replay->totals;
     if (piece->kind == PIECE_PASSED) {
         totals->runs++;
         totals->passed += piece->length;
-        if (!request->quote_only)
+        if (!replay->request->quote_only)
             print_passed(piece);
         return;
     }
-    uint64_t answer = feed(board, request, piece);
     totals->messages++;
+    if (leave_out(replay, piece))
+        return;
+    uint64_t answer = feed(replay, piece);
     totals->fields_refused += answer == SELKAVORN_FIELDS;
     totals->well_formed += is_well_formed(answer) && message_names_instruments(piece);
-    totals->resets += is_reset(piece, answer) && request->pass_resets;
     if (may_hold_another(answer))
-        recording_look_inside(recording, piece);
+        streams_look_inside(replay->streams, piece);
 }
 
-enum status reading_status(const struct request *request, int failure)
+enum status replay(struct board *board, const struct request *request, struct files files)
 {
-    if (failure == 0)
-        return STATUS_GOOD;
-    fflush(stdout);
-    fprintf(stderr, "selkavorn: %s cannot be read: %s\n", request->path, strerror(failure));
-    return STATUS_FILE;
-}
-
-enum status replay(struct board *board, const struct request *request, int file)
-{
-    static struct recording recording;
-    struct totals totals = {0};
+    static struct streams streams;
+    struct replay replay = {.board = board, .request = request, .streams = &streams};
     struct progress progress;
     struct piece piece;
-    progress_begin(&progress, file, !request->quote_only);
+    progress_begin(&progress, files.recording, !request->quote_only);
     if (!request->quote_only)
         printf("%10s  %-4s  %-24s  %7s  %s\n", "byte", "type", "number", "Waiting", "answer");
-    recording_begin(&recording, file);
-    for (recording_next(&recording, &piece); piece.kind != PIECE_END;
-         recording_next(&recording, &piece)) {
-        take_piece(board, request, &recording, &piece, &totals);
-        progress_at(&progress, piece.place);
+    streams_begin(&streams, request, files);
+    for (streams_next(&streams, &piece); piece.kind != PIECE_END; streams_next(&streams, &piece)) {
+        take_piece(&replay, &piece);
+        if (!piece.of_snapshots)
+            progress_at(&progress, piece.place);
     }
     progress_end(&progress);
-    print_totals(&totals);
-    enum status status = reading_status(request, recording.failure);
-    if (status == STATUS_GOOD && totals.messages == 0) {
+    print_totals(&replay);
+    enum status status = streams_status(&streams);
+    if (status == STATUS_GOOD && replay.totals.messages == 0) {
         fprintf(stderr, "selkavorn: %s holds no message\n", request->path);
         status = STATUS_FILE;
     }
-    if (status == STATUS_GOOD)
-        print_quotes(board, request);
     return status;
 }

@@ -1,4 +1,4 @@
-/* Answers, prices and moments as a person reads them, and the ages between moments. */
+/* Reasons, prices and moments as a person reads them, and the ages between moments. */
 #include "words.h"
 
 #include <inttypes.h>
@@ -6,42 +6,12 @@
 
 #include "selkavorn.h"
 
-const char *answer_words(uint64_t answer)
-{
-    switch (answer) {
-    case SELKAVORN_DONE: return "counted in order";
-    case SELKAVORN_GAP: return "gap, counted";
-    case SELKAVORN_OLD: return "old, not counted";
-    case SELKAVORN_LET_GO: return "counted, queue let go";
-    case SELKAVORN_TAKEN: return "snapshot taken";
-    case SELKAVORN_SNAPSHOT_UNFOLLOWED: return "snapshot not taken: not followed";
-    case SELKAVORN_SNAPSHOT_LIVE: return "snapshot not taken: already Live";
-    case SELKAVORN_SNAPSHOT_BELOW: return "snapshot not taken: older than the queue (369 below B)";
-    case SELKAVORN_SNAPSHOT_ABOVE: return "snapshot not taken: newer than heard (369 above H)";
-    case SELKAVORN_SNAPSHOT_OVER: return "snapshot not taken: a side over 20";
-    case SELKAVORN_REPLAY_BROKE: return "snapshot and queue do not fit: still Waiting";
-    case SELKAVORN_FRAME: return "refused: frame";
-    case SELKAVORN_CHECKSUM: return "refused: checksum";
-    case SELKAVORN_TYPE: return "refused: type";
-    case SELKAVORN_FIELDS: return "refused: fields";
-    case SELKAVORN_STORE: return "refused: store too short or unsound";
-    case SELKAVORN_ARGUMENT: return "refused: an argument outside its range";
-    case SELKAVORN_UNFOLLOWED: return "not followed";
-    case SELKAVORN_WAITING: return "Waiting";
-    case SELKAVORN_UNHEARD: return "nothing heard yet";
-    case SELKAVORN_AGE_BELOW: return "now is before the heard time";
-    case SELKAVORN_AGE_ABOVE: return "too old";
-    case SELKAVORN_OUTPUT: return "output too short for the message";
-    default: return "an answer that this program does not know";
-    }
-}
-
 const char *waiting_words(uint64_t reason)
 {
     switch (reason) {
-    case SELKAVORN_REASON_NONE: return "no snapshot taken since opening or the last gap";
-    case SELKAVORN_REASON_PLACE: return "an entry's place was not there; no snapshot taken since";
-    case SELKAVORN_REASON_NO_ROOM: return "an entry found its side full; no snapshot taken since";
+    case SELKAVORN_REASON_NONE: return "no snapshot since opening or the last gap";
+    case SELKAVORN_REASON_PLACE: return "an entry's place was not there";
+    case SELKAVORN_REASON_NO_ROOM: return "an entry found its side full";
     default: return "a reason that this program does not know";
     }
 }
@@ -72,6 +42,13 @@ void order_words(uint64_t by, uint64_t more, char text[ORDER_TEXT])
         text[8 + i] = (char)(more >> 8 * i & 255);
     }
     text[16] = '\0';
+}
+
+void age_words(int64_t age_ms, char text[AGE_TEXT])
+{
+    uint64_t size = age_ms < 0 ? -(uint64_t)age_ms : (uint64_t)age_ms;
+    snprintf(text, AGE_TEXT, "%s%" PRIu64 ".%03" PRIu64, age_ms < 0 ? "-" : "", size / 1000,
+             size % 1000);
 }
 
 /* Days from 1 March of the year -400 to a Gregorian date. Years begin in March here, so that a

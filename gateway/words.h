@@ -1,4 +1,4 @@
-/* Answers, prices and moments as a person reads them, and the ages between moments. */
+/* Reasons, prices and moments as a person reads them, and the ages between moments. */
 #ifndef WORDS_H
 #define WORDS_H
 
@@ -7,11 +7,9 @@
 enum {
     PRICE_TEXT = 24,  /* -999999999.9999999 and its zero byte fit */
     MOMENT_TEXT = 24, /* YYYYMMDD-HH:MM:SS.sss and its zero byte fit */
-    ORDER_TEXT = 24   /* 16 bytes, or a number of 20 digits, and its zero byte fit */
+    ORDER_TEXT = 24,  /* 16 bytes, or a number of 20 digits, and its zero byte fit */
+    AGE_TEXT = 32     /* any number of milliseconds as seconds, and its zero byte fit */
 };
-
-/* An answer number in words; an unknown one is said to be unknown. */
-const char *answer_words(uint64_t answer);
 
 /* Why an instrument is Waiting, from the reason in its state. */
 const char *waiting_words(uint64_t reason);
@@ -24,6 +22,9 @@ void moment_words(uint64_t date, uint64_t time, char text[MOMENT_TEXT]);
 
 /* The bytes of an order id, from the two numbers that a quote gives for it. */
 void order_words(uint64_t by, uint64_t more, char text[ORDER_TEXT]);
+
+/* An age as seconds with three decimals. */
+void age_words(int64_t age_ms, char text[AGE_TEXT]);
 
 /* A date YYYYMMDD and a time HHMMSSmmm in milliseconds, as 01 counts an age: days times 86,400,000
  * plus the time of day as written. */

@@ -1,15 +1,47 @@
-/* Selkavorn: keeps the order books of one exchange channel and gives dated quotes.
+/* Selkavorn 1.0: keeps the order books of one exchange channel and gives dated quotes.
  *
  * This is the only header. The functions are proved, and stand in libselkavorn.a (x86-64 Linux).
- * "01" below is the paper of exact rules; H, B and S are its letters: H is the last counted number,
- * B the number after which the queue is complete, S the tag 369 of a snapshot.
+ * What follows is enough to use them; docs/RULES.md has every rule to the last byte, in sections
+ * whose names are given here in quotes.
+ *
+ * Words
+ *   message    one FIX 4.4 message in tag=value bytes, from its 8= to the SOH (byte 1) of its 10=.
+ *   number     tag 34 of a message of the incremental stream: 1, 2, 3 and so on. Only snapshots
+ *              (35=W) are not numbered here: their 34 counts them within their own loop.
+ *   counted    a message is counted when its number is above H: it then becomes H, and its sending
+ *              time (52) the heard moment. A message that is refused is never counted.
+ *   H          the last counted number; 0 until one is. The books stand as of message H.
+ *   old        a number at most H: it came before, or came late, and changes nothing.
+ *   gap        a number above H + 1: messages between were lost, so every book may be wrong. All
+ *              books are emptied and all instruments wait.
+ *   followed   an instrument that was named at opening. Entries for others are passed over.
+ *   Live       the book is the exchange's as of message H, if the duties below are kept and the
+ *              exchange's own stream does not break it.
+ *   Waiting    the book is empty and is not to be used; it waits for a snapshot.
+ *   broken     an entry did not fit its side (no such place, or no room among 20): the instrument
+ *              is emptied and waits, with a reason. Others are not touched.
+ *   snapshot   a W message: the book of one instrument as of the number S in its tag 369.
+ *   queue      while any instrument waits, entries are kept, at most 256, so that a snapshot that
+ *              is older than H can be brought up to H. If they would be more, they are let go.
+ *   B          the queue holds everything from B + 1 to H. A snapshot serves if S is in B to H.
+ *   place      one line of a side, 1 the best; a side holds at most 20.
+ *
+ * What is read ("Frame", "Fields")
+ *   35=X  changes of the books: 34, 52, 268, and entries of 279, 269, 48, 22, 207, 270, 271, 37 or
+ *         346, 272, 273, 290.
+ *   35=W  a snapshot: 34, 52, 48, 22, 207, 369, 911, 268, and entries without 279, 48, 22, 207.
+ *   35=0, f, y, B  carry a number and a time: 34 and 52.
+ *   Entries with 269 = 0 are bids, 1 offers, J (in X) an empty book; other kinds, as trades, and
+ *   other tags are passed over. Other types are refused (13) and not counted: if such a message has
+ *   a number of the incremental stream, the next one shows a gap.
  *
  * The store
  *   All books live in one run of 64-bit numbers that the caller lends to every call: the store. It
  *   has at least SELKAVORN_STORE_NUMBERS numbers. Its contents are the library's alone: read and
  *   change them only by these calls. Numbers beyond the first SELKAVORN_STORE_NUMBERS are never
  *   read or written. A store holds no address, so a copy of a store is a store of its own. Nothing
- *   is kept outside it: the library allocates nothing and has no variables.
+ *   is kept outside it: the library allocates nothing and has no variables. A store that was
+ *   damaged, or that another version wrote in another layout, is refused (17).
  *
  * Duties of the caller
  *   1. Feed the incremental stream whole, in the order in which it comes, and the W messages of its
@@ -21,11 +53,15 @@
  *      selkavorn_open again before the next message, and feed no snapshot that was sent before the
  *      reset. The library does not know the type and answers it with SELKAVORN_TYPE. Without a new
  *      opening the new messages are old until their numbers pass H, and the books are then wrong.
- *   4. Use a store from one thread at a time. Different stores have nothing in common.
- *   5. Lend runs that do not overlap: store, message, SecurityIDs, names, moments and output. Only
+ *   4. Watch for a reset that was lost. The evidence: a message that is answered SELKAVORN_OLD
+ *      whose sending time (52) is later than the heard moment that selkavorn_board gives. A true
+ *      repeat carries the time that it had, which is no later. On that evidence use no quote of
+ *      this store any more: open it afresh, and let snapshots recover the books.
+ *   5. Use a store from one thread at a time. Different stores have nothing in common.
+ *   6. Lend runs that do not overlap: store, message, SecurityIDs, names, moments and output. Only
  *      runs that a call does not write may share bytes. A run of numbers starts at a multiple of 8
  *      bytes. Each run has at least as many elements as its count says.
- *   6. Take "now" from a clock that is right, in the time zone of tag 52, which is UTC. The age of
+ *   7. Take "now" from a clock that is right, in the time zone of tag 52, which is UTC. The age of
  *      a quote is no better than that clock.
  *
  * Arguments
@@ -36,12 +72,32 @@
  *   Gregorian date, years 0000 to 9999, hours to 23, minutes to 59, seconds to 60. No zero byte
  *   ends it.
  *
+ * Age ("Quote and writing")
+ *   The age of a quote is now less the heard moment, in milliseconds: days apart times 86,400,000
+ *   plus times of day apart, each as written, a second of 60 included. It is never taken from a
+ *   snapshot's time. A quote is given for ages of 0 to the limit, both included.
+ *
+ * What a call costs
+ *   Every call but selkavorn_open reads the first 7,168 numbers of the store once, to see that they
+ *   are sound; selkavorn_open writes them once. A feed then takes time by the length of its
+ *   message. At most 16,168 bytes of stack were used in any call that was measured, and 24,576 is
+ *   the budget. docs/BENCH.md has times.
+ *
  * Answers
  *   Every call answers a number of enum selkavorn_answer; selkavorn_feed and selkavorn_write put a
  *   second number above it (SELKAVORN_ANSWER, SELKAVORN_WAITING_COUNT, SELKAVORN_LENGTH).
- *   Checks run in this order: 17, 18, 11 to 14, then the rest in 01's table order.
+ *   Checks run in this order: 17, 18, 11 to 14, then the rest in the order of the enum.
  *   Only selkavorn_open with 0 and selkavorn_feed with 0, 1, 3, 4 and 10 change the store. Any
  *   other answer is a refusal: store and output are left as they were, to the last number and byte.
+ *
+ * In short (examples/minimal.c is a whole program)
+ *   static uint64_t store[SELKAVORN_STORE_NUMBERS];
+ *   uint64_t ids[] = {3809512}, quote[SELKAVORN_QUOTE_NUMBERS];
+ *   if (selkavorn_open(store, SELKAVORN_STORE_NUMBERS, SELKAVORN_ORDER_DEPTH, ids, 1)) stop();
+ *   while (next_message(&bytes, &length))
+ *       answered = selkavorn_feed(store, SELKAVORN_STORE_NUMBERS, bytes, length);
+ *   if (selkavorn_quote(store, SELKAVORN_STORE_NUMBERS, 3809512, now, 21, 30, quote, 17) == 0)
+ *       use(quote);
  */
 #ifndef SELKAVORN_H
 #define SELKAVORN_H
@@ -53,9 +109,17 @@
 extern "C" {
 #endif
 
+/* The version: of this header and of the archive that it came with. The first number changes when a
+ * program that was right may have to change, the second when something is added. */
+#define SELKAVORN_VERSION_MAJOR 1
+#define SELKAVORN_VERSION_MINOR 0
+#define SELKAVORN_VERSION_PATCH 0
+#define SELKAVORN_VERSION "1.0.0"
+
 #define SELKAVORN_STORE_NUMBERS 7168     /* numbers that a store has at least */
 #define SELKAVORN_QUOTE_NUMBERS 17       /* numbers that a quote writes */
 #define SELKAVORN_STATE_NUMBERS 4        /* numbers that a state writes */
+#define SELKAVORN_BOARD_NUMBERS 5        /* numbers that a board writes */
 #define SELKAVORN_MOST_INSTRUMENTS 16    /* instruments that a store follows at most */
 #define SELKAVORN_MOST_PLACES 20         /* places that a side holds at most */
 #define SELKAVORN_LONGEST_MESSAGE 8192   /* bytes of the longest message that is read */
@@ -70,37 +134,97 @@ enum selkavorn_depth {
     SELKAVORN_PRICE_DEPTH = 1  /* a place is a price, with its number of orders in tag 346 */
 };
 
-/* The answer numbers, in the order of 01's table; beside each, 01's row. */
+/* The answer numbers, in the order in which they are checked, and what a caller does on each. */
 enum selkavorn_answer {
-    SELKAVORN_DONE = 0,                  /* counted in order, or a quote, writing or opening done */
-    SELKAVORN_GAP = 1,                   /* gap, counted */
-    SELKAVORN_OLD = 2,                   /* old */
-    SELKAVORN_LET_GO = 3,                /* counted, queue let go */
-    SELKAVORN_SNAPSHOT_UNFOLLOWED = 5,   /* snapshot: not followed */
-    SELKAVORN_SNAPSHOT_LIVE = 6,         /* snapshot: already Live */
-    SELKAVORN_SNAPSHOT_BELOW = 7,        /* S below B */
-    SELKAVORN_SNAPSHOT_ABOVE = 8,        /* S above H */
-    SELKAVORN_SNAPSHOT_OVER = 9,         /* a side over 20 */
-    SELKAVORN_TAKEN = 4,                 /* taken */
-    SELKAVORN_REPLAY_BROKE = 10,         /* replay broke */
-    SELKAVORN_FRAME = 11,                /* frame */
-    SELKAVORN_CHECKSUM = 12,             /* checksum */
-    SELKAVORN_TYPE = 13,                 /* type */
-    SELKAVORN_FIELDS = 14,               /* any breach under Fields */
-    SELKAVORN_STORE = 17,                /* store under 7,168 numbers, or unsound */
-    SELKAVORN_ARGUMENT = 18,             /* an argument outside its range */
-    SELKAVORN_UNFOLLOWED = 20,           /* not followed */
-    SELKAVORN_WAITING = 21,              /* Waiting */
-    SELKAVORN_UNHEARD = 22,              /* nothing heard yet (H = 0) */
-    SELKAVORN_AGE_BELOW = 23,            /* age below 0 */
-    SELKAVORN_AGE_ABOVE = 24,            /* age above the limit */
-    SELKAVORN_OUTPUT = 25                /* output too short for the message */
+    /* Counted in order; or a quote, writing, state, board or opening is done. Go on. */
+    SELKAVORN_DONE = 0,
+    /* Counted after a gap: all wait. Give no quote; go on, and see that snapshots come. */
+    SELKAVORN_GAP = 1,
+    /* Old: it came before. Go on, but see duty 4. */
+    SELKAVORN_OLD = 2,
+    /* Counted, and the queue was let go: snapshots older than this message no longer serve. Go on;
+     * if it comes often, snapshots are too slow for the stream. */
+    SELKAVORN_LET_GO = 3,
+    /* A snapshot of an instrument that is not followed. Go on. */
+    SELKAVORN_SNAPSHOT_UNFOLLOWED = 5,
+    /* A snapshot of an instrument that is Live, which needs none. Go on. */
+    SELKAVORN_SNAPSHOT_LIVE = 6,
+    /* S is below B: the queue does not reach back to it. Wait for the next loop of snapshots. */
+    SELKAVORN_SNAPSHOT_BELOW = 7,
+    /* S is above H: messages up to S have yet to come. Keep it and feed it again once H reaches S,
+     * or wait for the next loop. */
+    SELKAVORN_SNAPSHOT_ABOVE = 8,
+    /* A side of the snapshot has over 20 places. Wait for the next loop. */
+    SELKAVORN_SNAPSHOT_OVER = 9,
+    /* Taken: the instrument is Live. */
+    SELKAVORN_TAKEN = 4,
+    /* Snapshot and queue do not fit: the instrument stays Waiting, with the reason. Wait for the
+     * next loop. */
+    SELKAVORN_REPLAY_BROKE = 10,
+    /* Not a message: its chain of fields, tag 8, 9, 35 or 10, or its length. Drop it; if it was a
+     * message of the stream, the next one shows a gap. The same holds for 12 to 14. */
+    SELKAVORN_FRAME = 11,
+    /* Its sum is not what tag 10 says: damaged on the way. */
+    SELKAVORN_CHECKSUM = 12,
+    /* A type that is not read. See duty 3 for 35=4. */
+    SELKAVORN_TYPE = 13,
+    /* A field that is missing, stands twice or in the wrong place, or has a value outside its
+     * range. */
+    SELKAVORN_FIELDS = 14,
+    /* The store is short, or its numbers are damaged or of another layout. Open it afresh. */
+    SELKAVORN_STORE = 17,
+    /* An argument is outside its range, or room for numbers is short: a fault of the caller. */
+    SELKAVORN_ARGUMENT = 18,
+    /* The instrument is not followed: a fault of the caller, or open with it. */
+    SELKAVORN_UNFOLLOWED = 20,
+    /* The instrument is Waiting. There is no quote; selkavorn_state says why. */
+    SELKAVORN_WAITING = 21,
+    /* Nothing was counted yet, so a quote has no date. There is no quote. */
+    SELKAVORN_UNHEARD = 22,
+    /* Now is before the heard moment: one of the two clocks is wrong. There is no quote. */
+    SELKAVORN_AGE_BELOW = 23,
+    /* The heard moment is further back than the limit: the line is silent. There is no quote. */
+    SELKAVORN_AGE_ABOVE = 24,
+    /* The message does not fit the room. Lend SELKAVORN_LONGEST_WRITING bytes. */
+    SELKAVORN_OUTPUT = 25
 };
 
 /* The two numbers in what selkavorn_feed and selkavorn_write answer. */
 #define SELKAVORN_ANSWER(answered) ((answered) % 256)
 #define SELKAVORN_WAITING_COUNT(answered) ((answered) / 256) /* of selkavorn_feed */
 #define SELKAVORN_LENGTH(answered) ((answered) / 256)        /* of selkavorn_write */
+
+/* An answer number in words, for a person; what selkavorn_feed and selkavorn_write answer goes
+ * through SELKAVORN_ANSWER first. */
+static inline const char *selkavorn_answer_text(uint64_t answer)
+{
+    switch (answer) {
+    case SELKAVORN_DONE: return "counted in order";
+    case SELKAVORN_GAP: return "gap, counted";
+    case SELKAVORN_OLD: return "old, not counted";
+    case SELKAVORN_LET_GO: return "counted, queue let go";
+    case SELKAVORN_TAKEN: return "snapshot taken";
+    case SELKAVORN_SNAPSHOT_UNFOLLOWED: return "snapshot not taken: not followed";
+    case SELKAVORN_SNAPSHOT_LIVE: return "snapshot not taken: already Live";
+    case SELKAVORN_SNAPSHOT_BELOW: return "snapshot not taken: older than the queue (369 below B)";
+    case SELKAVORN_SNAPSHOT_ABOVE: return "snapshot not taken: newer than heard (369 above H)";
+    case SELKAVORN_SNAPSHOT_OVER: return "snapshot not taken: a side over 20";
+    case SELKAVORN_REPLAY_BROKE: return "snapshot and queue do not fit: still Waiting";
+    case SELKAVORN_FRAME: return "refused: frame";
+    case SELKAVORN_CHECKSUM: return "refused: checksum";
+    case SELKAVORN_TYPE: return "refused: type";
+    case SELKAVORN_FIELDS: return "refused: fields";
+    case SELKAVORN_STORE: return "refused: store too short or unsound";
+    case SELKAVORN_ARGUMENT: return "refused: an argument outside its range";
+    case SELKAVORN_UNFOLLOWED: return "not followed";
+    case SELKAVORN_WAITING: return "Waiting";
+    case SELKAVORN_UNHEARD: return "nothing heard yet";
+    case SELKAVORN_AGE_BELOW: return "now is before the heard time";
+    case SELKAVORN_AGE_ABOVE: return "too old";
+    case SELKAVORN_OUTPUT: return "output too short for the message";
+    default: return "an answer that this version does not know";
+    }
+}
 
 /* The numbers of a quote, by their places in the output. A side's seven numbers start at
  * SELKAVORN_QUOTE_BID and SELKAVORN_QUOTE_OFFER; all seven are zero where the side is empty. */
@@ -127,6 +251,15 @@ enum selkavorn_state_place {
     SELKAVORN_STATE_REASON = 1,  /* of enum selkavorn_reason */
     SELKAVORN_STATE_BIDS = 2,    /* bids held, 0 to 20 */
     SELKAVORN_STATE_OFFERS = 3   /* offers held, 0 to 20 */
+};
+
+/* The numbers of a board, by their places in the output. */
+enum selkavorn_board_place {
+    SELKAVORN_BOARD_NUMBER = 0,     /* H */
+    SELKAVORN_BOARD_HEARD_DATE = 1, /* the date of tag 52 of message H, YYYYMMDD; 0 while H is 0 */
+    SELKAVORN_BOARD_HEARD_TIME = 2, /* its time of day, HHMMSSmmm; 0 while H is 0 */
+    SELKAVORN_BOARD_COMPLETE = 3,   /* B */
+    SELKAVORN_BOARD_MARKS = 4       /* bit i is 1 if instrument i of the opening, from 0, waits */
 };
 
 /* Why an instrument last broke. A gap makes it Waiting and keeps the reason. */
@@ -184,6 +317,12 @@ uint64_t selkavorn_write(const uint64_t *store, size_t store_n, uint64_t id, con
  * never those beyond. The store is only read. It is no quote: it has no date. */
 uint64_t selkavorn_state(const uint64_t *store, size_t store_n, uint64_t id, uint64_t *out,
                          size_t out_n);
+
+/* Says what a store has counted: H, the heard moment, B, and which instruments wait.
+ *   out, out_n  room for at least SELKAVORN_BOARD_NUMBERS numbers (shorter is 18)
+ * Answers 0; 17; 18. Writes the first SELKAVORN_BOARD_NUMBERS numbers of out on 0 alone, and never
+ * those beyond. The store is only read. It is no quote: it has no price. */
+uint64_t selkavorn_board(const uint64_t *store, size_t store_n, uint64_t *out, size_t out_n);
 
 #ifdef __cplusplus
 }

@@ -2,8 +2,8 @@
  *
  * Every answer number is reached. Around every call the lent runs are watched: a refusal must leave
  * store and output as they were, and nothing may touch the guards around them, what lies beyond a
- * store's 7,168 numbers, or what lies beyond a quote, a state or a written message. What a call
- * only reads ends where memory that cannot be read begins. */
+ * store's 7,168 numbers, or what lies beyond a quote, a state, a summary or a written message. What
+ * a call only reads ends where memory that cannot be read begins. */
 #define _DEFAULT_SOURCE /* for MAP_ANONYMOUS */
 
 #include <inttypes.h>
@@ -149,7 +149,7 @@ static void check_outputs(size_t wrote_numbers, size_t wrote_bytes)
     check(good, "outputs and their guards");
 }
 
-/* ---- the five calls, watched ---- */
+/* ---- the six calls, watched ---- */
 
 static uint64_t open_board(struct board *board, uint64_t depth, const uint64_t *ids, size_t ids_n)
 {
@@ -203,6 +203,16 @@ static uint64_t state(struct board *board, uint64_t id, size_t room)
     reached[SELKAVORN_ANSWER(answer)] = true;
     check_store(board, 0);
     check_outputs(answer == SELKAVORN_DONE ? SELKAVORN_STATE_NUMBERS : 0, 0);
+    return answer;
+}
+
+static uint64_t summary(struct board *board, size_t room)
+{
+    before_call(board);
+    uint64_t answer = selkavorn_board(store_of(board), board->n, numbers, room);
+    reached[SELKAVORN_ANSWER(answer)] = true;
+    check_store(board, 0);
+    check_outputs(answer == SELKAVORN_DONE ? SELKAVORN_BOARD_NUMBERS : 0, 0);
     return answer;
 }
 
@@ -429,11 +439,13 @@ static void check_refused_store(const char *what)
     feed(&first, SELKAVORN_STORE, 0, what, HEARTBEAT, 1);
     check_equal(quote(&first, 7, "20250103-13:00:00", 30, 17), SELKAVORN_STORE, what);
     check_equal(state(&first, 7, 4), SELKAVORN_STORE, what);
+    check_equal(summary(&first, 5), SELKAVORN_STORE, what);
     check_equal(write_book(&first, w), SELKAVORN_STORE, what);
     w.k = 0;
     check_equal(feed_bytes(&first, NULL, 0), SELKAVORN_STORE, "17 before 11");
     check_equal(quote(&first, 0, "", 86401, 0), SELKAVORN_STORE, "17 before 18");
     check_equal(state(&first, 0, 0), SELKAVORN_STORE, "17 before 18");
+    check_equal(summary(&first, 0), SELKAVORN_STORE, "17 before 18");
     check_equal(write_book(&first, w), SELKAVORN_STORE, "17 before 18");
 }
 
@@ -451,11 +463,12 @@ static void test_store(void)
     open_fresh(&first, SELKAVORN_ORDER_DEPTH);
     bool noticed = true;
     for (size_t i = 0; i < SELKAVORN_STORE_NUMBERS; i++) {
-        uint64_t *store = store_of(&first), kept = store[i], out[SELKAVORN_STATE_NUMBERS];
+        uint64_t *store = store_of(&first), kept = store[i], out[SELKAVORN_BOARD_NUMBERS];
         store[i] = UINT64_MAX;
         noticed = noticed && selkavorn_feed(store, first.n, NULL, 0) == SELKAVORN_STORE &&
                   selkavorn_state(store, first.n, 7, out, SELKAVORN_STATE_NUMBERS) ==
-                      SELKAVORN_STORE;
+                      SELKAVORN_STORE &&
+                  selkavorn_board(store, first.n, out, SELKAVORN_BOARD_NUMBERS) == SELKAVORN_STORE;
         store[i] = kept;
     }
     check(noticed, "each number, when it is out of its range");
@@ -533,6 +546,49 @@ static void test_quote(void)
     for (size_t i = 0; i < 7; i++)
         check_equal(numbers[SELKAVORN_QUOTE_BID + i], 0, "an empty side is zeros");
     check_equal(numbers[SELKAVORN_QUOTE_OFFER], 1, "the offer is held");
+    end();
+}
+
+/* Asks for a summary of the first board, which must have these numbers. */
+static void check_summary(uint64_t number, uint64_t date, uint64_t time, uint64_t complete,
+                          uint64_t marks, const char *what)
+{
+    check_equal(summary(&first, SELKAVORN_BOARD_NUMBERS), SELKAVORN_DONE, what);
+    check_equal(numbers[SELKAVORN_BOARD_NUMBER], number, what);
+    check_equal(numbers[SELKAVORN_BOARD_HEARD_DATE], date, what);
+    check_equal(numbers[SELKAVORN_BOARD_HEARD_TIME], time, what);
+    check_equal(numbers[SELKAVORN_BOARD_COMPLETE], complete, what);
+    check_equal(numbers[SELKAVORN_BOARD_MARKS], marks, what);
+}
+
+static void test_summary(void)
+{
+    static const uint64_t ids[] = {1, 2, 3, 4, 5, 6, 7, 8, 9, 10, 11, 12, 13, 14, 15, 16};
+    begin("summary");
+    open_fresh(&first, SELKAVORN_ORDER_DEPTH);
+    check_summary(0, 0, 0, 0, 3, "nothing heard, both wait");
+    feed(&first, SELKAVORN_DONE, 2, "1 in order", HEARTBEAT, 1);
+    check_summary(1, 20250103, 130000000, 0, 3, "1 is counted");
+    feed(&first, SELKAVORN_GAP, 2, "3 is a gap", "35=0|34=3|52=00000101-23:59:60.999|");
+    check_summary(3, 101, 235960999, 2, 3, "after a gap, a second of 60");
+    feed(&first, SELKAVORN_OLD, 2, "2 is old", HEARTBEAT, 2);
+    feed(&first, SELKAVORN_TAKEN, 1, "7 is taken", EMPTY_W, 7, 2);
+    check_summary(3, 101, 235960999, 2, 2, "an old time and a snapshot's are not heard");
+    feed(&first, SELKAVORN_DONE, 2, "7 breaks", "35=X|34=4|" AT "268=1|" DELETE_BID);
+    check_summary(4, 20250103, 130000000, 2, 3, "after a break");
+    feed(&first, SELKAVORN_TAKEN, 1, "9 is taken", EMPTY_W, 9, 4);
+    check_summary(4, 20250103, 130000000, 2, 1, "7 waits");
+    feed(&first, SELKAVORN_TAKEN, 0, "7 is taken", EMPTY_W, 7, 4);
+    check_summary(4, 20250103, 130000000, 4, 0, "none waits, B is H");
+    check_equal(summary(&first, 4), SELKAVORN_ARGUMENT, "room of 4");
+    check_equal(summary(&first, 0), SELKAVORN_ARGUMENT, "no room");
+    check_equal(selkavorn_board(store_of(&first), first.n, NULL, 0), SELKAVORN_ARGUMENT,
+                "no room, NULL");
+    check_equal(summary(&first, 17), SELKAVORN_DONE, "more room");
+    check_equal(open_board(&first, 1, ids, 16), SELKAVORN_DONE, "16 instruments");
+    check_summary(0, 0, 0, 0, 65535, "16 wait");
+    feed(&first, SELKAVORN_TAKEN, 15, "16 is taken", EMPTY_W, 16, 0);
+    check_summary(0, 0, 0, 0, 32767, "the last is Live, nothing heard");
     end();
 }
 
@@ -694,6 +750,7 @@ static void test_edges(void)
     uint64_t *store = (uint64_t *)(void *)make_edge() - n;
     uint64_t *quoted = (uint64_t *)(void *)make_edge() - SELKAVORN_QUOTE_NUMBERS;
     uint64_t *stated = (uint64_t *)(void *)make_edge() - SELKAVORN_STATE_NUMBERS;
+    uint64_t *summed = (uint64_t *)(void *)make_edge() - SELKAVORN_BOARD_NUMBERS;
     uint8_t *written = make_edge() - 110;
     const uint8_t *now = lend_text(MOMENT, "20250103-13:00:00");
     begin("store and output at an edge");
@@ -711,6 +768,8 @@ static void test_edges(void)
                 SELKAVORN_DONE, "quote");
     check_equal(selkavorn_state(store, n, id, stated, SELKAVORN_STATE_NUMBERS), SELKAVORN_DONE,
                 "state");
+    check_equal(selkavorn_board(store, n, summed, SELKAVORN_BOARD_NUMBERS), SELKAVORN_DONE,
+                "summary");
     end();
 }
 
@@ -737,6 +796,7 @@ int main(void)
     test_store();
     test_quote_arguments();
     test_quote();
+    test_summary();
     test_writing_arguments();
     test_writing();
     test_round_trip();

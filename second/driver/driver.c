@@ -387,6 +387,19 @@ static void run_state(char **cursor)
     check_store(0);
 }
 
+static void run_board(char **cursor)
+{
+    size_t store_n = next_length(cursor, STORE_ROOM);
+    size_t room = next_length(cursor, NUMBER_ROOM);
+    guard_numbers();
+    uint64_t answer = selkavorn_board(store, store_n, numbers, room);
+    size_t written = answer == SELKAVORN_DONE ? SELKAVORN_BOARD_NUMBERS : 0;
+    printf("board %" PRIu64, answer);
+    print_numbers(written);
+    check_numbers(written);
+    check_store(0);
+}
+
 /* Sets store numbers by a word INDEX=VALUE,INDEX=VALUE,.. */
 static void change_store(char *changes)
 {
@@ -444,9 +457,9 @@ static void run_call(char *cursor)
     static const struct {
         const char *name;
         void (*run)(char **);
-    } calls[] = {{"open", run_open},   {"feed", run_feed},     {"quote", run_quote},
-                 {"write", run_write}, {"state", run_state},   {"damage", run_damage},
-                 {"wipe", run_wipe},   {"dump", run_dump}};
+    } calls[] = {{"open", run_open},   {"feed", run_feed},   {"quote", run_quote},
+                 {"write", run_write}, {"state", run_state}, {"board", run_board},
+                 {"damage", run_damage}, {"wipe", run_wipe}, {"dump", run_dump}};
     const char *name = next_word(&cursor);
     for (size_t i = 0; i < sizeof calls / sizeof calls[0]; i++)
         if (strcmp(name, calls[i].name) == 0) {

@@ -54,6 +54,13 @@ impl Channel {
         self.instruments.iter().filter(|instrument| instrument.waiting).count()
     }
 
+    /// One bit for each instrument in the order of opening, from the lowest: 1 for Waiting.
+    pub fn marks(&self) -> u64 {
+        let marked = either(Flip::BoardMarksLive, true, false);
+        let bit = |(i, instrument): (usize, &Instrument)| u64::from(instrument.waiting == marked) << i;
+        self.instruments.iter().enumerate().map(bit).sum()
+    }
+
     pub fn find(&self, id: u64) -> Option<&Instrument> {
         self.instruments.iter().find(|instrument| instrument.id == id)
     }

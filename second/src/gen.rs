@@ -45,13 +45,14 @@ enum Step {
     Quote,
     Write,
     State,
+    Board,
     OddStore,
     Damage,
     Reopen,
 }
 
 /// How often each step is taken under each theme; a theme holds for a while.
-const WEIGHTS: [(Step, [u64; 6]); 20] = [
+const WEIGHTS: [(Step, [u64; 6]); 21] = [
     // calm, losses, bursts, bounds, harm, questions
     (Step::Next, [300, 200, 120, 120, 120, 80]),
     (Step::Recover, [60, 120, 40, 60, 60, 40]),
@@ -70,6 +71,7 @@ const WEIGHTS: [(Step, [u64; 6]); 20] = [
     (Step::Quote, [60, 40, 30, 40, 30, 220]),
     (Step::Write, [40, 30, 30, 40, 30, 120]),
     (Step::State, [40, 50, 40, 30, 30, 70]),
+    (Step::Board, [30, 40, 30, 20, 20, 60]),
     (Step::OddStore, [6, 6, 4, 6, 6, 24]),
     (Step::Damage, [8, 8, 10, 8, 8, 10]),
     (Step::Reopen, [2, 2, 1, 3, 3, 5]),
@@ -127,7 +129,7 @@ pub fn sweep(seed: u64) -> Vec<Call> {
         }
     }
     let later = calls.split_off(end);
-    let is_ask = |call: &&Call| matches!(call, Call::Quote { .. } | Call::Write { .. } | Call::State { .. });
+    let is_ask = |call: &&Call| matches!(call.function(), Some("quote" | "write" | "state" | "board"));
     let mut feeds = later.iter().filter(|call| matches!(call, Call::Feed { .. })).cycle();
     let mut asks = later.iter().filter(is_ask).cycle();
     for (i, change) in damage::just_outside(&store).into_iter().enumerate() {
@@ -174,6 +176,7 @@ impl Generator {
             Step::Quote => self.quote(),
             Step::Write => self.write(),
             Step::State => self.state(),
+            Step::Board => self.board(),
             Step::OddStore => self.odd_store(),
             Step::Damage => self.damage(),
             Step::Reopen => self.reopen(),

@@ -1,4 +1,4 @@
-//! The five calls, with the checks of their arguments (17, then 18) before all others.
+//! The six calls, with the checks of their arguments (17, then 18) before all others.
 
 use crate::answer::*;
 use crate::book::Depth;
@@ -16,6 +16,8 @@ pub const STORE_NUMBERS: u64 = 7_168;
 const SHORTEST_WRITING: u64 = 104;
 /// The numbers of a state.
 pub const STATE_NUMBERS: usize = 4;
+/// The numbers of a summary of the board.
+pub const BOARD_NUMBERS: usize = 5;
 
 /// The arguments of a writing.
 pub struct Writing<'a> {
@@ -138,6 +140,19 @@ impl Keeper {
         let instrument = channel.find(id).ok_or(NOT_FOLLOWED)?;
         let (bids, offers) = (instrument.book.bids.len(), instrument.book.offers.len());
         Ok([u64::from(instrument.waiting), instrument.reason, bids as u64, offers as u64])
+    }
+
+    /// H, the heard date and time (0 and 0 while H is 0), B, the Waiting marks; or 17, 18.
+    pub fn board(&self, store_n: u64, room: u64) -> Result<[u64; BOARD_NUMBERS], u64> {
+        let channel = self.sound(store_n)?;
+        if room < BOARD_NUMBERS as u64 - either(Flip::BoardRoom4, 0, 1) {
+            return Err(ARGUMENT);
+        }
+        let unheard = either(Flip::BoardUnheardDated, 0, 101);
+        let (date, time) =
+            channel.heard.map_or((unheard, 0), |heard| (heard.date.number(), heard.time.number()));
+        let h = either(Flip::BoardBForH, channel.h, channel.b);
+        Ok([h, date, time, channel.b, channel.marks()])
     }
 
     /// The opened channel, or 17.

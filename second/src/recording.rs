@@ -10,13 +10,14 @@
 //! | `F` | the message | feed |
 //! | `Q` | SecurityID 8 bytes, limit 8 bytes, now | quote, in room of 17 numbers |
 //! | `S` | SecurityID 8 bytes | state, in room of 4 numbers |
+//! | `B` | none | summary of the board, in room of 5 numbers |
 //! | `W` | SecurityID 8 bytes, k, m, sender's and target's length (a byte each), sender, target, time | writing, in room of 4,267 bytes |
 //! | `D` | index 2 bytes, value 8 bytes | none; the store's number at the index is set |
 //!
 //! A `damage` line becomes a `D` record for each of its changes, its call, and a `D` record for
 //! each number that then differs from what it was before.
 
-use crate::keeper::{Keeper, STATE_NUMBERS, STORE_NUMBERS};
+use crate::keeper::{Keeper, BOARD_NUMBERS, STATE_NUMBERS, STORE_NUMBERS};
 use crate::quote::QUOTE_NUMBERS;
 use crate::replay::LONGEST_WRITING;
 use crate::run::run_plainly;
@@ -99,6 +100,9 @@ fn record(call: &Call, recording: &mut Vec<u8>) -> Option<()> {
         }
         Call::State { store_n: STORE_NUMBERS, id, room } if *room == STATE_NUMBERS as u64 => {
             put(b'S', &id.to_le_bytes(), recording)
+        }
+        Call::Board { store_n: STORE_NUMBERS, room } if *room == BOARD_NUMBERS as u64 => {
+            put(b'B', &[], recording)
         }
         Call::Write { store_n: STORE_NUMBERS, id, sender, target, k, m, time, room: LONGEST_WRITING } => {
             let lengths = [sender.len(), target.len()].map(|length| byte(length as u64));

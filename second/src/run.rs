@@ -7,6 +7,7 @@
 //! | `quote ANSWER`, then 17 numbers after a 0 | quote |
 //! | `write ANSWER LENGTH`, then the bytes after a 0 | writing |
 //! | `state ANSWER`, then 4 numbers after a 0 | state |
+//! | `board ANSWER`, then 5 numbers after a 0 | summary of the board |
 //! | `damage`, then the line of its call | a call on a store with numbers changed |
 //! | `wipe` | wipe |
 //! | `dump`, then `INDEX=VALUE` for each store number that isn't zero | dump |
@@ -74,6 +75,10 @@ pub fn run_plainly(keeper: &mut Keeper, call: &Call) -> (String, bool) {
         Call::State { store_n, id, room } => {
             let outcome = keeper.state(*store_n, *id, *room);
             numbers_line("state", outcome.as_ref().map(|n| &n[..]).map_err(|a| *a))
+        }
+        Call::Board { store_n, room } => {
+            let outcome = keeper.board(*store_n, *room);
+            numbers_line("board", outcome.as_ref().map(|n| &n[..]).map_err(|a| *a))
         }
         Call::Damage { changes, call } => format!("damage {}", run_call(&mut damaged(keeper, changes), call)),
         Call::Wipe { value } => {

@@ -7,6 +7,7 @@
 //! | `quote STORE_N ID NOW LIMIT ROOM` | quote |
 //! | `write STORE_N ID SENDER TARGET K M TIME ROOM` | writing |
 //! | `state STORE_N ID ROOM` | state |
+//! | `board STORE_N ROOM` | summary of the board |
 //! | `damage INDEX=VALUE,INDEX=VALUE,.. CALL` | the call on the store with these numbers set, which are then restored |
 //! | `wipe VALUE` | all 7,168 store numbers set to VALUE, as never opened |
 //! | `dump` | none; the store's numbers are told |
@@ -51,6 +52,10 @@ pub enum Call {
     State {
         store_n: u64,
         id: u64,
+        room: u64,
+    },
+    Board {
+        store_n: u64,
         room: u64,
     },
     Damage {
@@ -130,6 +135,7 @@ impl Call {
             Call::Quote { .. } => Some("quote"),
             Call::Write { .. } => Some("write"),
             Call::State { .. } => Some("state"),
+            Call::Board { .. } => Some("board"),
             Call::Damage { call, .. } => call.function(),
             Call::Wipe { .. } | Call::Dump => None,
         }
@@ -149,6 +155,7 @@ impl Call {
                 format!("write {store_n} {id} {sender} {target} {k} {m} {time} {room}")
             }
             Call::State { store_n, id, room } => format!("state {store_n} {id} {room}"),
+            Call::Board { store_n, room } => format!("board {store_n} {room}"),
             Call::Damage { changes, call } => format!("damage {} {}", changes_text(changes), call.line()),
             Call::Wipe { value } => format!("wipe {value}"),
             Call::Dump => String::from("dump"),
@@ -167,6 +174,7 @@ impl Call {
             "quote" => words.quote()?,
             "write" => words.write()?,
             "state" => Call::State { store_n: words.number()?, id: words.number()?, room: words.number()? },
+            "board" => Call::Board { store_n: words.number()?, room: words.number()? },
             "wipe" => Call::Wipe { value: words.number()? },
             "dump" => Call::Dump,
             _ => return None,

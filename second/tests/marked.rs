@@ -124,6 +124,7 @@ fn m11_numbers() {
     let keeper = after_m11();
     let channel = keeper.channel.as_ref().unwrap();
     assert_eq!((channel.b, channel.h), (2, 3));
+    assert_eq!(keeper.board(STORE, 5), Ok([3, 20_250_103, 130_000_000, 2, 0b11]));
 }
 
 #[test]
@@ -133,6 +134,7 @@ fn m12_snapshots() {
     assert_eq!(keeper.feed(STORE, &w(4, 1)), (8, 2));
     assert_eq!(keeper.feed(STORE, &w(2, 1)), (4, 1));
     assert_eq!(keeper.state(STORE, 7, 4), Ok([0, 0, 2, 0]));
+    assert_eq!(keeper.board(STORE, 5), Ok([3, 20_250_103, 130_000_000, 2, 0b10]));
     let quote = keeper.quote(STORE, 7, b"20250103-13:00:00", 30, 17).unwrap();
     assert_eq!(quote[..5], [3, 20_250_103, 130_000_000, 1, 240_100_000]);
 }

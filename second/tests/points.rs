@@ -156,11 +156,16 @@ fn before_anything_is_heard() {
     let mut keeper = Keeper::default();
     assert_eq!(keeper.feed(STORE, b"x"), (17, 0));
     assert_eq!(keeper.open(STORE - 1, 9, &[]), 17);
+    assert_eq!(keeper.board(STORE, 5), Err(17));
     assert_eq!(keeper.open(STORE, 0, &[7]), 0);
+    assert_eq!(keeper.board(STORE, 5), Ok([0, 0, 0, 0, 1]));
+    assert_eq!(keeper.board(STORE, 4), Err(18));
+    assert_eq!(keeper.board(STORE - 1, 4), Err(17));
     let now = b"20250103-13:00:00";
     assert_eq!(keeper.quote(STORE, 7, now, 30, 17), Err(21));
     let taken = sealed(&format!("35=W|{HEAD}48=7|22=8|369=0|911=1|268=0|"), None, None);
     assert_eq!(keeper.feed(STORE, &taken), (4, 0));
+    assert_eq!(keeper.board(STORE, 5), Ok([0, 0, 0, 0, 0]));
     assert_eq!(keeper.quote(STORE, 7, now, 30, 17), Err(22));
     assert_eq!(keeper.quote(STORE, 8, now, 30, 17), Err(20));
     assert_eq!(keeper.quote(STORE, 8, now, 86_401, 17), Err(18));

@@ -13,8 +13,8 @@ fn scripts() -> Vec<Vec<Call>> {
 }
 
 /// Flips of what the program never does: it lends 7,168 numbers and the room that a call needs.
-const UNSEEN: [Flip; 4] =
-    [Flip::QuoteRoom16, Flip::ShortBeforeWaiting, Flip::Store7167, Flip::ArgumentsFirst];
+const UNSEEN: [Flip; 5] =
+    [Flip::QuoteRoom16, Flip::ShortBeforeWaiting, Flip::BoardRoom4, Flip::Store7167, Flip::ArgumentsFirst];
 
 #[test]
 fn recordings_show_flips() {

@@ -48,7 +48,7 @@ fn bits(p: i64) -> u64
 }
 
 // A moment's date and time of day.
-fn put_moment(out: &mut [u64], at: usize, m: u64)
+pub fn put_moment(out: &mut [u64], at: usize, m: u64)
     requires { ⌜ (at + 2 ≤ length (now out)) × (m < moments) ⌝ }
     ensures { λ _. ⌜ now (out .exit) ≡ sets (now (out .entry)) at (momentWords m) ⌝ }
 {

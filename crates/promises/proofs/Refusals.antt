@@ -19,6 +19,7 @@ use Rattle.writer.specs.Writing.{writtenOf, outAfter}
 use Rattle.quote.specs.Quotes.{quoteOf}
 use Rattle.ask.specs.Ask.{roomAfter, quoteValues, quoteAnswer, quoteOut, stateWords, stateAnswer, stateOut}
 use Rattle.ask.proofs.Laws.{refused-carries-zeros}
+use Rattle.summary.specs.Summary.{summaryWords, summaryAnswer, summaryOut}
 use Rattle.send.specs.Send.{Page, message, refusal, sentPage, writtenNumber, pageAnswer, pageOut, sendAnswer, sendOut}
 use Rattle.promises.specs.Refusals.{isDone, RefusalsStay}
 
@@ -62,6 +63,10 @@ state-stays : (id : ℕ) (room xs : List ℕ) → isDone (stateAnswer id room xs
 unfolding stateOut
 state-stays id room xs = room-stays (stateAnswer id room xs) (stateWords (at (look id (boardAt xs .insts)) (boardAt xs))) room
 
+summary-stays : (room xs : List ℕ) → isDone (summaryAnswer room xs % 256) ≡ false → summaryOut room xs ≡ room
+unfolding summaryOut
+summary-stays room xs = room-stays (summaryAnswer room xs) (summaryWords (boardAt xs)) room
+
 write-stays : (id : ℕ) (sender target : List ℕ) (k m : ℕ) (time room xs : List ℕ) → isDone (sendAnswer id sender target k m time room xs % 256) ≡ false
     → sendOut id sender target k m time room xs ≡ room
 unfolding sendAnswer sendOut
@@ -75,5 +80,6 @@ refusals-stay =
       quoting = λ id now limit room xs r ys o h. o .out ∙ quote-stays id now limit room xs (of-answer isDone r _ (o .answer) h);
       writing = λ id sender target k m time room xs r ys o h. o .out ∙ write-stays id sender target k m time room xs (of-answer isDone r _ (o .answer) h);
       stating = λ id room xs r ys o h. o .out ∙ state-stays id room xs (of-answer isDone r _ (o .answer) h);
+      summing = λ room xs r ys o h. o .out ∙ summary-stays room xs (of-answer isDone r _ (o .answer) h);
       zeros = refused-carries-zeros;
     }

@@ -1,4 +1,4 @@
--- A refused call changes neither store nor output (document 01, "Answer numbers"): over the contracts of the five exported functions.
+-- A refused call changes neither store nor output (document 01, "Answer numbers"): over the contracts of the six exported functions.
 use mathlib.Core.Path.{_≡_}
 use mathlib.Core.Bool.{Bool, false}
 use mathlib.Core.List.{List}
@@ -10,6 +10,7 @@ use Rattle.opening.specs.Opening.{Opened}
 use Rattle.feed.specs.Feeding.{Fed}
 use Rattle.ask.specs.Ask.{Asked, Stated}
 use Rattle.ask.specs.Laws.{RefusedCarriesZeros}
+use Rattle.summary.specs.Summary.{Summed}
 use Rattle.send.specs.Send.{Sent}
 
 -- Document 01's number is the answer less the count or length that stands above its 8 bits. Where that number is none of those that
@@ -17,7 +18,7 @@ use Rattle.send.specs.Send.{Sent}
 abbrev pub Stays : (ℕ → Bool) → Allowed → List ℕ → Type 0
 Stays changing allows lent = (r : ℕ) (ys : List ℕ) → allows r ys → changing (r % 256) ≡ false → ys ≡ lent
 
--- A quote, writing, state or opening is done with 0.
+-- A quote, writing, state, summary or opening is done with 0.
 abbrev pub isDone : ℕ → Bool
 isDone a = eqb a 0
 
@@ -29,5 +30,6 @@ pub record RefusalsStay : Type 0 where
   pub quoting : (id : ℕ) (now : List ℕ) (limit : ℕ) (room xs : List ℕ) → Stays isDone (Asked id now limit room xs) room
   pub writing : (id : ℕ) (sender target : List ℕ) (k m : ℕ) (time room xs : List ℕ) → Stays isDone (Sent id sender target k m time room xs) room
   pub stating : (id : ℕ) (room xs : List ℕ) → Stays isDone (Stated id room xs) room
+  pub summing : (room xs : List ℕ) → Stays isDone (Summed room xs) room
   -- a refused quote carries zeros
   pub zeros : RefusedCarriesZeros

@@ -1,5 +1,5 @@
-// Replays recordings of calls on the five exported functions, and writes a line for each call: its answer, and after a 0 the
-// quote, the state or the snapshot. The recordings are the files that the arguments name. The lines that must come out are
+// Replays recordings of calls on the six exported functions, and writes a line for each call: its answer, and after a 0 the
+// quote, the state, the summary or the snapshot. The recordings are the files that the arguments name. The lines that must come out are
 // written by the second implementation from the same recordings, so a run holds the proved code to an independent one.
 //
 // A recording is a chain of records: a byte that says the kind, two bytes of length (low byte first), and that many bytes.
@@ -8,6 +8,7 @@
 //   F  the message                                              feed
 //   Q  SecurityID 8 bytes, limit 8 bytes, then now              quote, in room of 17 numbers
 //   S  SecurityID 8 bytes                                       state, in room of 4 numbers
+//   B  nothing                                                  summary of the board, in room of 5 numbers
 //   W  SecurityID 8 bytes, k, m, sender's and target's length,
 //      a byte each, then sender, target, time                   writing, in room of 4,267 bytes
 //   D  index 2 bytes, value 8 bytes                             the store's number at the index is set; no line
@@ -55,6 +56,13 @@ fn state_call(store: &[u64], body: &[u8]) {
     lines::told(b"state", answer, &room);
 }
 
+// Asks for a summary of the board.
+fn board_call(store: &[u64]) {
+    let mut room = [0u64; 5];
+    let answer = selkavorn::selkavorn_board(store, &mut room);
+    lines::told(b"board", answer, &room);
+}
+
 // Has a snapshot written.
 fn write_call(store: &[u64], body: &[u8]) {
     let mut room = [0u8; 4267];
@@ -88,13 +96,14 @@ fn set_number(store: &mut [u64], body: &[u8]) {
     }
 }
 
-// Does what a record says, and answers whether its kind is one of the six.
+// Does what a record says, and answers whether its kind is one of the seven.
 fn call(store: &mut [u64], kind: u8, body: &[u8]) -> bool {
     match kind {
         b'O' => open_call(store, body),
         b'F' => feed_call(store, body),
         b'Q' => quote_call(store, body),
         b'S' => state_call(store, body),
+        b'B' => board_call(store),
         b'W' => write_call(store, body),
         b'D' => set_number(store, body),
         _ => return false,

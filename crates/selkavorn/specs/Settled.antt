@@ -3,12 +3,14 @@
 use Rattle.opening.specs.Laws.{OpenSettled}
 use Rattle.feed.specs.Laws.{FeedSettled}
 use Rattle.ask.specs.Laws.{QuoteSettled, StateSettled}
+use Rattle.summary.specs.Laws.{SummarySettled}
 use Rattle.send.specs.Laws.{WriteSettled}
 
--- All five, over the records that their contracts are.
+-- All six, over the records that their contracts are.
 pub record AllSettled : Type 0 where
   pub opening : OpenSettled
   pub feeding : FeedSettled
   pub quoting : QuoteSettled
   pub writing : WriteSettled
   pub stating : StateSettled
+  pub summing : SummarySettled

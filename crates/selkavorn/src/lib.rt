@@ -3,6 +3,7 @@
 ghost use Rattle.opening.specs.Opening.{Opened};
 ghost use Rattle.feed.specs.Feeding.{Fed};
 ghost use Rattle.ask.specs.Ask.{Asked, Stated};
+ghost use Rattle.summary.specs.Summary.{Summed};
 ghost use Rattle.send.specs.Send.{Sent};
 
 // Opens a store for a depth kind (0 order depth, 1 price depth) and SecurityIDs.
@@ -58,4 +59,12 @@ pub extern "C" fn selkavorn_state(store: &[u64], id: u64, out: &mut [u64]) -> u6
     ensures { λ r. ⌜ Stated id (now (out .entry)) (now (store .entry)) r (now (out .exit)) ⌝ }
 {
     ask::state(store, id, out)
+}
+
+// Says what was counted and who waits, as 5 numbers in out: H, the heard date and time, B, the Waiting marks.
+#[no_mangle]
+pub extern "C" fn selkavorn_board(store: &[u64], out: &mut [u64]) -> u64
+    ensures { λ r. ⌜ Summed (now (out .entry)) (now (store .entry)) r (now (out .exit)) ⌝ }
+{
+    summary::summary(store, out)
 }

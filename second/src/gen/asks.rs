@@ -1,4 +1,4 @@
-//! Questions: quotes, writings and states, with good arguments and bad ones.
+//! Questions: quotes, writings, states and summaries, with good arguments and bad ones.
 
 use super::{bounds, clock, values, Generator};
 use crate::keeper::{Writing, STORE_NUMBERS};
@@ -147,5 +147,15 @@ impl Generator {
         };
         let room = if self.rng.chance(92) { 4 } else { *self.rng.pick(&[0, 1, 3, 5, 16]) };
         Call::State { store_n: STORE_NUMBERS, id, room }
+    }
+
+    pub(super) fn board(&mut self) {
+        let call = self.board_call();
+        self.call(call);
+    }
+
+    pub(super) fn board_call(&mut self) -> Call {
+        let room = if self.rng.chance(92) { 5 } else { *self.rng.pick(&[0, 1, 4, 6, 17]) };
+        Call::Board { store_n: STORE_NUMBERS, room }
     }
 }

@@ -79,6 +79,7 @@ impl Generator {
             self.quote();
             self.write();
             self.state();
+            self.board();
             self.next();
             self.quote();
             self.quote();
@@ -134,10 +135,11 @@ impl Generator {
         let lent = *self.rng.pick(&LENGTHS);
         let from = self.calls.len();
         let keeper = self.guide.clone();
-        match self.rng.below(4) {
+        match self.rng.below(5) {
             0 => self.quote(),
             1 => self.write(),
             2 => self.state(),
+            3 => self.board(),
             _ => self.late_or_next(),
         }
         self.guide = keeper;
@@ -162,6 +164,7 @@ fn spoil(mut call: Call) -> Call {
         Call::Quote { limit, .. } => *limit = 86_401,
         Call::Write { k, .. } => *k = 17,
         Call::State { id, .. } => *id = 0,
+        Call::Board { room, .. } => *room = 4,
         _ => {}
     }
     call
@@ -177,6 +180,7 @@ fn lend(call: Call, lent: u64) -> Call {
             Call::Write { store_n: lent, id, sender, target, k, m, time, room }
         }
         Call::State { id, room, .. } => Call::State { store_n: lent, id, room },
+        Call::Board { room, .. } => Call::Board { store_n: lent, room },
         other => other,
     }
 }

@@ -1,0 +1,3 @@
+pub mod Words
+pub mod Dates
+pub mod Laws

@@ -1,0 +1,45 @@
+/* A board, and what this program itself remembers of the messages that it fed to it. */
+#ifndef BOARD_H
+#define BOARD_H
+
+#include <stdbool.h>
+#include <stddef.h>
+#include <stdint.h>
+
+#include "recording.h"
+#include "request.h"
+#include "selkavorn.h"
+#include "words.h"
+
+struct board {
+    uint64_t store[SELKAVORN_STORE_NUMBERS];
+    char latest[MOMENT_TEXT]; /* the latest tag 52 of all messages that were well-formed */
+    bool has_opened_at;       /* a sequence reset whose moment is known opened it afresh */
+    int64_t opened_at_ms;     /* that moment */
+    bool lost_reset;          /* a sequence reset was lost, and it was not opened afresh since */
+    char names[SELKAVORN_MOST_INSTRUMENTS][NAME_TEXT]; /* of the instruments; "" where unknown */
+};
+
+/* What a board has counted. */
+struct heading {
+    uint64_t number;     /* of the last counted message, 0 where there is none */
+    uint64_t date, time; /* its tag 52, as a quote gives them */
+};
+
+/* Opens the board with the depth and the instruments of the request; gives the library's answer. */
+uint64_t board_open(struct board *board, const struct request *request);
+
+/* Says what the board has counted; nothing where the library refuses the store. */
+struct heading board_heading(const struct board *board);
+
+/* Feeds a message to a board that is kept for this alone: its answers 11 to 14 are those of every
+ * board, and any lower one says that the message is well-formed. */
+uint64_t judge(const struct request *request, const struct piece *message);
+
+/* Answers of messages that are well-formed, whatever became of them. */
+bool is_well_formed(uint64_t answer);
+
+/* Answers of a stretch whose tag 9 may be damaged, so that it runs over another message. */
+bool may_hold_another(uint64_t answer);
+
+#endif
