@@ -239,7 +239,7 @@ void measure_others(Depth depth, const FIX::DataDictionary &dictionary, const Me
     Store unheard;
     open(unheard, depth, s.stream);
     const plain_board plain_unheard = opened(depth, s.stream);
-    Copies<Store> stores(unheard);
+    Copies<Store> stores(unheard), asked(s.store);
     Copies<plain_board> plains(plain_unheard);
     PeerBoard board;
     auto nothing = [] {};
@@ -252,10 +252,10 @@ void measure_others(Depth depth, const FIX::DataDictionary &dictionary, const Me
          for_each(ws, [&](const std::string &w) { return takes(*plains, w); }), {}},
         {columns(c, mean_length(ws), "QuickFIX snapshot"), ws.size(), [&] { board = s.board; },
          for_each(ws, [&](const std::string &w) { return peer_apply(dictionary, w, board); }), {}},
-        {columns(c, 0, "quote"), CALLS_A_ROUND, nothing, again([&] { return quote(s.store, id); }), {}},
-        {columns(c, 0, "write"), CALLS_A_ROUND, nothing, again([&] { return write(s.store, id); }), {}},
-        {columns(c, 0, "state"), CALLS_A_ROUND, nothing, again([&] { return state(s.store, id); }), {}},
-        {columns(c, 0, "board"), CALLS_A_ROUND, nothing, again([&] { return summary(s.store); }), {}},
+        {columns(c, 0, "quote"), CALLS_A_ROUND, [&] { asked.next(); }, again([&] { return quote(*asked, id); }), {}},
+        {columns(c, 0, "write"), CALLS_A_ROUND, nothing, again([&] { return write(*asked, id); }), {}},
+        {columns(c, 0, "state"), CALLS_A_ROUND, nothing, again([&] { return state(*asked, id); }), {}},
+        {columns(c, 0, "board"), CALLS_A_ROUND, nothing, again([&] { return summary(*asked); }), {}},
     };
     measure(all);
     check_same(c, *stores, "the plain board", seen(*plains));
