@@ -6,6 +6,7 @@
 #include <cstdio>
 #include <cstdlib>
 #include <functional>
+#include <numeric>
 #include <time.h>
 #include <valgrind/callgrind.h>
 
@@ -20,10 +21,10 @@
 
 namespace {
 
-constexpr int WARM_UP = 5; // rounds
 constexpr int ENTRIES_A_ROUND = 1024;
 constexpr int QUEUE = 256;         // entries that fill the queue
 constexpr int CALLS_A_ROUND = 256; // of a call that takes no stream
+constexpr size_t COPIES = 31;      // of a store, at places of their own in memory; a round takes two, so all have their turn
 constexpr int AGREED = 10000;      // messages that both readers are asked, a depth kind
 
 [[noreturn]] void fail(const std::string &what) {
@@ -88,6 +89,22 @@ Start start(const Case &c, const FIX::DataDictionary &dictionary) {
     }
     return s;
 }
+
+// Copies of a store or a board. A time depends on where in memory it lies, so each round takes other ones.
+template <typename Keeper> class Copies {
+  public:
+    explicit Copies(const Keeper &of) : all(COPIES, of) {}
+    void next() { at = (at + 1) % all.size(); }
+    void next(const Keeper &of) {
+        next();
+        all[at] = of;
+    }
+    Keeper &operator*() { return all[at]; }
+
+  private:
+    std::vector<Keeper> all;
+    size_t at = 0;
+};
 
 // Something to measure: makes ready for a round, does the round's calls, and says whether all went well.
 struct Measured {
@@ -163,20 +180,20 @@ void measure_case(const Case &c, const FIX::DataDictionary &dictionary, const Me
     const std::vector<std::string> &xs = s.stream.changes;
     const size_t length = mean_length(xs);
     const uint64_t waiting = 256u * static_cast<unsigned>(c.waiting);
-    Store store, scanned = s.store;
-    plain_board plain;
-    PeerBoard board;
+    Store full = s.store;
     if (c.waiting)
-        for (const std::string &x : xs) feed(scanned, x);
-    const uint64_t *const numbers = scanned.data();
+        for (const std::string &x : xs) feed(full, x);
+    Copies<Store> stores(s.store), scanned(full);
+    Copies<plain_board> plains(s.plain);
+    PeerBoard board;
     auto nothing = [] {};
     std::vector<Measured> all = {
-        {columns(c, length, "feed"), xs.size(), [&] { store = s.store; },
-         for_each(xs, [&](const std::string &x) { return feed(store, x) == SELKAVORN_DONE + waiting; }), {}},
-        {columns(c, length, "scan"), CALLS_A_ROUND, nothing, again([numbers] { return scan(numbers); }), {}},
-        {columns(c, length, "loop"), CALLS_A_ROUND, nothing, again([numbers] { return loop<loop_wide>(numbers); }), {}},
-        {columns(c, length, "plain"), xs.size(), [&] { plain = s.plain; },
-         for_each(xs, [&](const std::string &x) { return feed(plain, x) == SELKAVORN_DONE + waiting; }), {}},
+        {columns(c, length, "feed"), xs.size(), [&] { stores.next(s.store); },
+         for_each(xs, [&](const std::string &x) { return feed(*stores, x) == SELKAVORN_DONE + waiting; }), {}},
+        {columns(c, length, "scan"), CALLS_A_ROUND, [&] { scanned.next(); }, again([&] { return scan((*scanned).data()); }), {}},
+        {columns(c, length, "loop"), CALLS_A_ROUND, nothing, again([&] { return loop<loop_wide>((*scanned).data()); }), {}},
+        {columns(c, length, "plain"), xs.size(), [&] { plains.next(s.plain); },
+         for_each(xs, [&](const std::string &x) { return feed(*plains, x) == SELKAVORN_DONE + waiting; }), {}},
         {columns(c, length, "parse"), xs.size(), nothing,
          for_each(xs, [&](const std::string &x) { return peer_parse(dictionary, x); }), {}},
         {columns(c, length, "validate"), xs.size(), nothing,
@@ -185,7 +202,7 @@ void measure_case(const Case &c, const FIX::DataDictionary &dictionary, const Me
          for_each(xs, [&](const std::string &x) { return peer_apply(dictionary, x, board); }), {}},
     };
     measure(all);
-    check_books(c, s, store, plain, board);
+    check_books(c, s, *stores, *plains, board);
 }
 
 bool quote(const Store &store, uint64_t id) {
@@ -219,28 +236,29 @@ void measure_others(Depth depth, const FIX::DataDictionary &dictionary, const Me
     for (const std::string &x : s.stream.changes) feed(s.store, x);
     const std::vector<std::string> &ws = s.stream.snapshots;
     const uint64_t *ids = s.stream.ids.data(), id = ids[0];
-    Store unheard, store;
+    Store unheard;
     open(unheard, depth, s.stream);
     const plain_board plain_unheard = opened(depth, s.stream);
-    plain_board plain;
+    Copies<Store> stores(unheard), asked(s.store);
+    Copies<plain_board> plains(plain_unheard);
     PeerBoard board;
     auto nothing = [] {};
-    auto reopen = [&] { return selkavorn_open(store.data(), store.size(), depth, ids, INSTRUMENTS) == SELKAVORN_DONE; };
+    auto reopen = [&] { return selkavorn_open((*stores).data(), (*stores).size(), depth, ids, INSTRUMENTS) == SELKAVORN_DONE; };
     std::vector<Measured> all = {
-        {columns(c, 0, "open"), CALLS_A_ROUND, [&] { store = unheard; }, again(reopen), {}},
-        {columns(c, mean_length(ws), "snapshot"), ws.size(), [&] { store = unheard; },
-         for_each(ws, [&](const std::string &w) { return takes(store, w); }), {}},
-        {columns(c, mean_length(ws), "plain snapshot"), ws.size(), [&] { plain = plain_unheard; },
-         for_each(ws, [&](const std::string &w) { return takes(plain, w); }), {}},
+        {columns(c, 0, "open"), CALLS_A_ROUND, [&] { stores.next(); }, again(reopen), {}},
+        {columns(c, mean_length(ws), "snapshot"), ws.size(), [&] { stores.next(unheard); },
+         for_each(ws, [&](const std::string &w) { return takes(*stores, w); }), {}},
+        {columns(c, mean_length(ws), "plain snapshot"), ws.size(), [&] { plains.next(plain_unheard); },
+         for_each(ws, [&](const std::string &w) { return takes(*plains, w); }), {}},
         {columns(c, mean_length(ws), "QuickFIX snapshot"), ws.size(), [&] { board = s.board; },
          for_each(ws, [&](const std::string &w) { return peer_apply(dictionary, w, board); }), {}},
-        {columns(c, 0, "quote"), CALLS_A_ROUND, nothing, again([&] { return quote(s.store, id); }), {}},
-        {columns(c, 0, "write"), CALLS_A_ROUND, nothing, again([&] { return write(s.store, id); }), {}},
-        {columns(c, 0, "state"), CALLS_A_ROUND, nothing, again([&] { return state(s.store, id); }), {}},
-        {columns(c, 0, "board"), CALLS_A_ROUND, nothing, again([&] { return summary(s.store); }), {}},
+        {columns(c, 0, "quote"), CALLS_A_ROUND, [&] { asked.next(); }, again([&] { return quote(*asked, id); }), {}},
+        {columns(c, 0, "write"), CALLS_A_ROUND, nothing, again([&] { return write(*asked, id); }), {}},
+        {columns(c, 0, "state"), CALLS_A_ROUND, nothing, again([&] { return state(*asked, id); }), {}},
+        {columns(c, 0, "board"), CALLS_A_ROUND, nothing, again([&] { return summary(*asked); }), {}},
     };
     measure(all);
-    check_same(c, store, "the plain board", seen(plain));
+    check_same(c, *stores, "the plain board", seen(*plains));
 }
 
 // A store whose 640 places hold order ids of this kind.
@@ -252,19 +270,19 @@ Store filled(Ids ids) {
     return store;
 }
 
-// The scan by the order ids that a store holds, and the bare loops, at one place in memory, since the time depends on that too.
+// The scan by the order ids that a store holds, and the bare loops, each round at one place in memory.
 void measure_scans(const Measure &measure) {
     const Case c = {ORDER_DEPTH, 0, 0};
     const Store uniform = filled(LONG_IDS), mixed = filled(MIXED_IDS);
-    Store store;
+    Copies<Store> stores(uniform);
     auto nothing = [] {};
-    auto scans = again([&] { return scan(store.data()); });
+    auto scans = again([&] { return scan((*stores).data()); });
     std::vector<Measured> all = {
-        {columns(c, 0, "scan"), CALLS_A_ROUND, [&] { store = uniform; }, scans, {}},
-        {columns(c, 0, "mixed scan"), CALLS_A_ROUND, [&] { store = mixed; }, scans, {}},
-        {columns(c, 0, "loop"), CALLS_A_ROUND, nothing, again([&] { return loop<loop_wide>(store.data()); }), {}},
-        {columns(c, 0, "plain loop"), CALLS_A_ROUND, nothing, again([&] { return loop<loop_plain>(store.data()); }), {}},
-        {columns(c, 0, "scalar loop"), CALLS_A_ROUND, nothing, again([&] { return loop<loop_scalar>(store.data()); }), {}},
+        {columns(c, 0, "scan"), CALLS_A_ROUND, [&] { stores.next(uniform); }, scans, {}},
+        {columns(c, 0, "mixed scan"), CALLS_A_ROUND, [&] { *stores = mixed; }, scans, {}},
+        {columns(c, 0, "loop"), CALLS_A_ROUND, nothing, again([&] { return loop<loop_wide>((*stores).data()); }), {}},
+        {columns(c, 0, "plain loop"), CALLS_A_ROUND, nothing, again([&] { return loop<loop_plain>((*stores).data()); }), {}},
+        {columns(c, 0, "scalar loop"), CALLS_A_ROUND, nothing, again([&] { return loop<loop_scalar>((*stores).data()); }), {}},
     };
     measure(all);
 }
@@ -280,20 +298,27 @@ double thread_ns() {
     return static_cast<double>(t.tv_sec) * 1e9 + static_cast<double>(t.tv_nsec);
 }
 
-// Times the rounds in turn, so that what else the machine does falls on all alike. Prints the median of the rounds.
+// The mean of the middle half: no odd round counts, and times at several places in memory are joined.
+double middle_mean(std::vector<double> &values) {
+    std::sort(values.begin(), values.end());
+    const auto from = values.begin() + static_cast<long>(values.size() / 4), to = values.end() - static_cast<long>(values.size() / 4);
+    return std::accumulate(from, to, 0.0) / static_cast<double>(to - from);
+}
+
+// Times the rounds in turn, so that what else the machine does falls on all alike. What a round needs is in the caches: it is done
+// once before it is timed.
 void time_all(std::vector<Measured> &all, int rounds) {
-    for (int round = -WARM_UP; round < rounds; round++)
+    for (int round = 0; round < rounds; round++)
         for (Measured &m : all) {
+            m.ready();
+            do_round(m);
             m.ready();
             double from = thread_ns();
             do_round(m);
             double to = thread_ns();
-            if (round >= 0) m.ns.push_back((to - from) / static_cast<double>(m.calls));
+            m.ns.push_back((to - from) / static_cast<double>(m.calls));
         }
-    for (Measured &m : all) {
-        std::sort(m.ns.begin(), m.ns.end());
-        std::printf("%s\t%.1f\n", m.what.c_str(), m.ns[m.ns.size() / 2]);
-    }
+    for (Measured &m : all) std::printf("%s\t%.1f\n", m.what.c_str(), middle_mean(m.ns));
     std::fflush(stdout);
 }
 

@@ -89,4 +89,5 @@ def main():
     print("\n".join(drawing(sorted(runs, key=lambda run: MACHINES.index(run.machine)))))
 
 
-main()
+if __name__ == "__main__":
+    main()

@@ -47,4 +47,5 @@ def main():
     print('"sizes": ' + json.dumps(sizes, indent=1) + "}")
 
 
-main()
+if __name__ == "__main__":
+    main()

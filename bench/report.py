@@ -20,12 +20,13 @@ AIMS = (
 )
 STACK_AIM = f"the deepest stack is under {MOST_STACK:,} bytes"
 
-MESSAGE_ROWS = (("feed", "feed"), ("scan", "of that the scan"), ("beyond", "of that beyond the scan"), ("plain", "plain C reader"),
-                ("parse", "QuickFIX: parse"), ("validate", "QuickFIX: parse, validate"),
-                ("book", "QuickFIX: parse, validate, book"))
-RATIOS = (("feed", "parse"), ("feed", "book"), ("beyond", "plain"), ("scan", "loop"))
-# Where one waits the queue is fuller in the scan than in the feed, so the difference says nothing.
-NONE_WAITING_ONLY = "beyond"
+PEER_ROWS = (("plain", "plain C reader"), ("parse", "QuickFIX: parse"), ("validate", "QuickFIX: parse, validate"),
+             ("book", "QuickFIX: parse, validate, book"))
+# By the state. Where one waits the queue is fuller in the scan than in the feed, so their difference says nothing.
+MESSAGE_ROWS = ((("feed", "feed"), ("scan", "of that the scan"), ("beyond", "of that beyond the scan")) + PEER_ROWS,
+                (("feed", "feed"), ("scan", "the scan where the queue is full")) + PEER_ROWS)
+RATIOS = ((("feed", "parse"), ("feed", "book"), ("beyond", "plain"), ("scan", "loop")),
+          (("feed", "parse"), ("feed", "book"), ("scan", "loop")))
 OTHER_ROWS = (("open", "open, 16 instruments"), ("snapshot", "feed, a snapshot of 40 entries, {bytes:,} bytes"),
               ("plain snapshot", "the same, plain C reader"), ("QuickFIX snapshot", "the same, QuickFIX with its book"),
               ("quote", "quote"), ("write", "write, 40 places"), ("state", "state"), ("board", "board"))
@@ -55,11 +56,14 @@ NOTES = """\
   queue is compared too. Before anything is timed, the plain reader is asked 20,000 messages, many lost, repeated or harmed: it
   must give the same answer to each, every answer of a feed must come, and the books must stay the same. The run fails where
   anything differs.
-- The store starts at an address that 64 divides, as a line of the cache does (`bench/store.hpp`).
-- A time is the processor's time of the thread, by round, divided by the calls of the round; the rounds of the rows take turns. A
-  repetition is a run of the program, with addresses of its own, and its time is the median of its rounds. A table has the
-  median of the repetitions, the lowest and the highest of them, and how far those lie apart. A run in which that is above {most} in
-  any row that is timed is not kept, unless it is asked for; what lies beyond the scan is a difference of two such rows.
+- The store starts at an address that 64 divides, as a line of the cache does (`bench/store.hpp`). A time depends on where in
+  memory it lies, so each round takes another of 31 copies; a scan and its loop have the same one. The proved code starts at such an
+  address too (`bench/align.c`): in another program it may lie less well, or better.
+- A time is the processor's time of the thread, by round, divided by the calls of the round; the rounds of the rows take turns, and
+  each is done once before it is timed, so that what it needs is in the caches. A repetition is a run of the program, with addresses
+  of its own, and its time is the mean of the middle half of its rounds. A table has the median of the repetitions, the lowest and
+  the highest of them, and how far those lie apart. A run in which that is above {most} in any row that is timed is not kept, unless
+  it is asked for; what lies beyond the scan is a difference of two such rows.
 - Instructions are those that callgrind counts in one round, on the same machine.
 - A call's stack is the deepest byte that it wrote below its caller's frame, in the calls of `bench/stack.c`. It is measured, not a
   bound.
@@ -110,9 +114,7 @@ def times(runs, waiting):
     rows = []
     for case in cases(waiting):
         name = f"{message_name(case)}, {runs[0].bytes[case]:,} bytes"
-        for what, meaning in MESSAGE_ROWS:
-            if waiting and what == NONE_WAITING_ONLY:
-                continue
+        for what, meaning in MESSAGE_ROWS[waiting]:
             rows.append([name, meaning] + [cell for run in runs for cell in figures(run, case, what)])
             name = ""
     return table(["message", ""] + of_machines(runs, "ns", "lowest to highest", "instructions"), rows, 2)
@@ -120,7 +122,7 @@ def times(runs, waiting):
 
 def ratios(runs, waiting):
     names = {"beyond": "beyond the scan", "plain": "plain C reader"}
-    pairs = [pair for pair in RATIOS if not (waiting and NONE_WAITING_ONLY in pair)]
+    pairs = RATIOS[waiting]
     heads = [f"{names.get(what, what)} / {names.get(other, other)}" for what, other in pairs]
     rows = [[message_name(case)] + [ratio(run.ratios(case, *pair)) for run in runs for pair in pairs] for case in cases(waiting)]
     return table(["message"] + of_machines(runs, *heads), rows)
@@ -213,7 +215,7 @@ def measured(runs):
     yield aims(runs)
     yield ("The aims are for boards on which none waits; where one waits, the same is measured without an aim. A ratio is of times. An "
            "aim is judged in every row and every repetition that it speaks of, order and price depth both; the figure is the worst of "
-           "them. The stack is the deepest of all calls measured.\n")
+           "them. The stack is the deepest of all calls measured, of the archive for x86-64 too.\n")
     for waiting, state in enumerate(STATES):
         yield f"## Ratios, {state}\n"
         yield ratios(runs, waiting)
@@ -253,4 +255,5 @@ def main():
     sys.stdout.write("\n".join(page(sys.argv[1], runs)))
 
 
-main()
+if __name__ == "__main__":
+    main()

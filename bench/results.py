@@ -1,4 +1,4 @@
-"""Runs of scripts/bench, as bench/results/MACHINE.json keeps them: a time is a list, one median for each repetition."""
+"""Runs of scripts/bench, as bench/results/MACHINE.json keeps them: a time is a list, one for each repetition."""
 import json
 import statistics
 from collections import namedtuple
