@@ -86,3 +86,7 @@ module _ (id : ℕ) (now : List ℕ) (limit : ℕ) (room xs : List ℕ) where
         → Asked id now limit room xs r (roomAfter r (quoteValues (boardAt xs .depth) (quoteOf id now limit (boardAt xs))) room)
     unfolding quoteAnswer quoteOut
     asked h r n = let e = le-leb 17 (length room) h in record { answer = n ∙ rw (s, e); out = rw (s, e, n) }
+
+-- the room after a quote, by its depth kind and the quote
+pub room-by : (answer : ℕ) (room : List ℕ) {d k : ℕ} {q p : Quoted} → d ≡ k → q ≡ p → roomAfter answer (quoteValues d q) room ≡ roomAfter answer (quoteValues k p) room
+room-by answer room h g = cc

@@ -8,8 +8,8 @@ use lib.Dec.{ltb, leb, eqb}
 use lib.IntN.{natAbs}
 use lib.ListN.{length}
 use borrow.Author.Tests.{leb-true, ltb-true, eqb-true, le-leb, lt-ltb, eq-eqb}
-use Rattle.price.specs.Price.{top}
-use Rattle.moment.specs.Moments.{moments}
+use Rattle.holding.specs.Prices.{top}
+use Rattle.holding.specs.Moments.{moments}
 use Rattle.book.specs.Rules.{Lists, mostPlaces}
 use Rattle.book.specs.Canonical.{All}
 use Rattle.book.specs.declared.Entry.{Entry}

@@ -7,9 +7,9 @@ use lib.IntN.{ℤ, natAbs}
 use lib.ListN.{length}
 use Rattle.book.specs.declared.Entry.{Entry}
 use Rattle.book.specs.declared.Update.{Update}
-use Rattle.price.specs.Price.{top}
-use Rattle.moment.specs.Moments.{moments}
-use Rattle.orderid.specs.OrderIds.{idSound}
+use Rattle.holding.specs.Prices.{top}
+use Rattle.holding.specs.Moments.{moments}
+use Rattle.holding.specs.OrderIds.{idSound}
 use Rattle.message.specs.Message.{Message, Head, numbered, snapshot, refused}
 pub use Rattle.book.specs.Ids.{mostId, idFine}
 pub use Rattle.message.specs.Message.{mostNumber}

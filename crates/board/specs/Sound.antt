@@ -6,8 +6,8 @@ use Prim.Native.Nat.{ℕ, _+_, _≤_, _<_}
 use lib.Dec.{ltb, leb, eqb}
 use lib.IntN.{natAbs}
 use lib.ListN.{length}
-use Rattle.price.specs.Price.{top}
-use Rattle.moment.specs.Moments.{moments}
+use Rattle.holding.specs.Prices.{top}
+use Rattle.holding.specs.Moments.{moments}
 use Rattle.book.specs.Rules.{Lists, empty, mostPlaces}
 use Rattle.book.specs.Canonical.{All}
 use Rattle.book.specs.declared.Entry.{Entry}

@@ -4,6 +4,7 @@ use mathlib.Core.List.{List, [], _∷_}
 use mathlib.Core.Bool.{Bool, cond, not, _&&_, _||_}
 use lib.ListN.{getD}
 use lib.Dec.{leb, eqb}
+pub use Rattle.holding.specs.Moments.{days}
 
 -- 4 divides a leap year, and 100 doesn't unless 400 does
 unfoldable pub leap : ℕ → Bool
@@ -30,10 +31,6 @@ yearDays l = cond l 366 365
 unfoldable pub daysBefore : ℕ → ℕ
 daysBefore zero = 0
 daysBefore (suc y) = daysBefore y + yearDays (leap y)
-
--- the days of the years 0000 to 9999
-abbrev pub days : ℕ
-days = 3652425
 
 -- the year, the month and the day of the month of YYYYMMDD, as a number
 abbrev pub yearIn : ℕ → ℕ

@@ -9,8 +9,8 @@ use native.Mathlib.Omega.{arith}
 use lib.IntN.{ℤ}
 use lib.ListN.{length, getD, take, drop, set, length-set, length-append, take-append-drop, List·getD-append}
 use lib.Seq.{sets, ext-getD, getD-set-other}
-use Rattle.price.specs.Held.{ofHeld}
-use Rattle.price.proofs.Holding.{of-held-of, held-of-held}
+use Rattle.holding.specs.Prices.{ofHeld}
+use Rattle.holding.proofs.Holding.{of-held-of, held-of-held}
 use Rattle.book.specs.declared.Entry.{Entry}
 use Rattle.book.specs.declared.Side.{Side}
 use Rattle.book.specs.declared.Update.{Update}

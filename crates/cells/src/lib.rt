@@ -27,7 +27,7 @@ pub fn load_entry(store: &[u64], at: usize) -> Entry
     requires { ⌜ at + 5 ≤ length (now store) ⌝ }
     ensures { λ r. ⌜ r ≡ entryAt (now (store .entry)) at ⌝ }
 {
-    let p = price::of_held(store[at]);
+    let p = holding::of_held(store[at]);
     Entry {
         price: p,
         size: store[at + 1],
@@ -41,7 +41,7 @@ pub fn save_entry(store: &mut [u64], at: usize, e: Entry)
     requires { ⌜ at + 5 ≤ length (now store) ⌝ }
     ensures { λ _. ⌜ now (store .exit) ≡ sets (now (store .entry)) at (words e) ⌝ }
 {
-    store[at] = price::held(e.price);
+    store[at] = holding::held(e.price);
     store[at + 1] = e.size;
     store[at + 2] = e.by;
     store[at + 3] = e.more;

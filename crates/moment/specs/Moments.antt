@@ -8,7 +8,8 @@ use Rattle.digits.specs.Digits.{digitsOf}
 use Rattle.digits.specs.declared.Number.{Number}
 use Rattle.digits.specs.declared.Number.the-variants.{Is, No}
 use Rattle.text.specs.Text.{fixed}
-use Rattle.calendar.specs.Calendar.{days, isDate, dayOf, dateNumber}
+use Rattle.calendar.specs.Calendar.{isDate, dayOf, dateNumber}
+pub use Rattle.holding.specs.Moments.{span, moments}
 
 -- ---- reading
 -- YYYYMMDD as a number is held as its day, where it is a date
@@ -48,14 +49,6 @@ unfoldable pub timeOf : List ℕ → Number
 timeOf t =
     cond (eqb (length t) 8) (join 1000 (clockOf t) (Is 0))
     (cond (eqb (length t) 12 && eqb (getD t 8 0) 46) (join 1000 (clockOf (take 8 t)) (digitsOf 3 (drop 9 t))) No)
-
--- the places of a day: 24 hours of 60 minutes of 61 seconds of 1,000 milliseconds
-abbrev pub span : ℕ
-span = 87840000
-
--- the moments of the years 0000 to 9999
-abbrev pub moments : ℕ
-moments = days * span
 
 -- 52: a date, a minus (45), a time of day
 unfoldable pub momentOf : List ℕ → Number

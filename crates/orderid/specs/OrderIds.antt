@@ -6,6 +6,7 @@ use lib.ListN.{length, take, drop}
 use lib.Dec.{leb, eqb}
 use Rattle.orderid.specs.declared.OrderId.{OrderId}
 use Rattle.orderid.specs.declared.OrderId.the-variants.{Is, No}
+pub use Rattle.holding.specs.OrderIds.{top, full, idSound}
 
 -- a byte of 33 to 126
 abbrev pub idByte : ℕ → Bool
@@ -37,18 +38,6 @@ wordText (suc k) n = cond (eqb n 0) [] (wordText k ((n - 1) / 94) ++ ((33 + (n -
 -- the bytes of an id
 unfoldable pub idText : ℕ → ℕ → List ℕ
 idText a b = wordText 8 a ++ wordText 8 b
-
--- the greatest word of 8 bytes
-abbrev pub top : ℕ
-top = 6161234432565770
-
--- the least word of 8 bytes
-abbrev pub full : ℕ
-full = 65545047154955
-
--- two numbers hold an id: a second word stands only after a first of 8 bytes
-abbrev pub idSound : ℕ → ℕ → Bool
-idSound a b = (leb 1 a && leb a top) && (eqb b 0 || (leb full a && leb b top))
 
 -- bytes in one number, the first lowest, zeros above the last
 abbrev pub packs : List ℕ → ℕ

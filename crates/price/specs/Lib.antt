@@ -1,3 +1,2 @@
 pub mod Price
 pub mod PriceText
-pub mod Held

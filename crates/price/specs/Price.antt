@@ -10,14 +10,11 @@ use Rattle.digits.specs.Digits.{digitsOf}
 use Rattle.digits.specs.declared.Number.{Number}
 use Rattle.digits.specs.declared.Number.the-variants.{Is, No}
 use Rattle.price.specs.declared.Priced.{Priced}
+pub use Rattle.holding.specs.Prices.{top}
 
 -- a price of 1, in ten-millionths
 abbrev pub unit : ℕ
 unit = 10000000
-
--- no price is as far from 0
-abbrev pub top : ℕ
-top = 10000000000000000
 
 -- an optional minus, then an amount
 abbrev pub minus : Number → Priced

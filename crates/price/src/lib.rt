@@ -1,5 +1,5 @@
 // Prices: tag 270 read to a signed whole number of ten-millionths and written again without a needless zero, point or
-// minus; and the one number that holds a price in the store (document 01, "Fields" 270 and "Quote and writing").
+// minus (document 01, "Fields" 270 and "Quote and writing").
 use digits::Number;
 ghost use mathlib.Core.Path.{_≡_};
 ghost use Prim.Native.Nat.{_+_, _-_, _*_, _^_, _≤_, _<_};
@@ -8,7 +8,6 @@ ghost use lib.IntN.{pos, negℤ, natAbs};
 ghost use Rattle.text.specs.Text.{Wrote};
 ghost use Rattle.price.specs.Price.{unit, top, ahead, amountOf, priceOf};
 ghost use Rattle.price.specs.PriceText.{decimals, amountText, priceText};
-ghost use Rattle.price.specs.Held.{heldOf, ofHeld};
 
 // A price that was read, or none.
 pub enum Priced {
@@ -153,25 +152,4 @@ pub fn put(out: &mut [u8], at: usize, p: i64) -> usize
         return put_amount(out, b, m);
     }
     put_amount(out, at, m)
-}
-
-// The number that holds a price: 0 for 0, then 1 for the first below, 2 for the first above, and so on. Every number of
-// 64 bits holds one price, and the prices of tag 270 fill one range from 0.
-pub fn held(p: i64) -> u64
-    ensures { λ r. ⌜ r ≡ heldOf p ⌝ }
-{
-    if p < 0 {
-        return ((-1 - p) as u64) * 2 + 1;
-    }
-    (p as u64) * 2
-}
-
-pub fn of_held(w: u64) -> i64
-    ensures { λ r. ⌜ r ≡ ofHeld w ⌝ }
-{
-    let m = (w / 2) as i64;
-    if w % 2 == 0 {
-        return m;
-    }
-    -1 - m
 }

@@ -108,3 +108,8 @@ join-zero a b false t e f = ne-eqb (bitOr a b) 0 (λ h. eqb-false a 0 e (omega (
 
 pub or-zero : (a b : ℕ) → eqb (bitOr a b) 0 ≡ eqb a 0 && eqb b 0
 or-zero a b = join-zero a b (eqb a 0) (eqb b 0) refl refl
+
+-- a turn of a loop that joins
+pub zero-turn : (xs : List ℕ) (at i a : ℕ) → eqb a 0 ≡ allZero xs at i → eqb (bitOr a (getD xs (at + i) 0)) 0 ≡ allZero xs at (i + 1)
+zero-turn xs at i a h =
+    or-zero a (getD xs (at + i) 0) ∙ ap (λ (t : Bool). t && eqb (getD xs (at + i) 0) 0) h ∙ sym (zero-more xs at i)

@@ -1,6 +1,6 @@
 -- A range as the code tests it: below its start or above its end.
 use mathlib.Core.Path.{_≡_, refl}
-use mathlib.Core.Bool.{Bool, true, false, _&&_, _||_, false≢true, true≢false}
+use mathlib.Core.Bool.{Bool, true, false, cond, _&&_, _||_, false≢true, true≢false}
 use Prim.Native.Nat.{ℕ}
 use lib.Dec.{ltb}
 use borrow.Author.Tests.{ltb-true, ltb-false, le-leb, lt-leb}
@@ -26,3 +26,18 @@ module _ (lo hi n : ℕ) where
 -- a test that holds, before others
 pub held-first : {t x : Bool} → t ≡ true → x ≡ t && x
 held-first e = rw e
+
+-- the same before others that come to y
+pub past : {t x y : Bool} → t ≡ true → y ≡ x → y ≡ t && x
+past e h = rw e h
+
+-- a test that fails, before others
+pub stops : {t : Bool} (x : Bool) → t ≡ false → false ≡ t && x
+stops x e = rw e
+
+-- a choice by a test that holds, and by one that fails
+pub chosen : {t x y : Bool} (z : Bool) → t ≡ true → y ≡ x → y ≡ cond t x z
+chosen z e h = rw e h
+
+pub other : {t y z : Bool} (x : Bool) → t ≡ false → y ≡ z → y ≡ cond t x z
+other x e h = rw e h

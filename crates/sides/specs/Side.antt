@@ -4,7 +4,7 @@ use mathlib.Core.List.{List}
 use Prim.Native.Nat.{ℕ, zero, suc, _+_, _*_, _-_}
 use lib.Dec.{ltb, leb, eqb}
 use lib.ListN.{getD}
-use Rattle.price.specs.Held.{heldTop}
+use Rattle.holding.specs.Prices.{heldTop}
 use Rattle.heading.specs.Marks.{marked}
 use Rattle.board.specs.Ranges.{within, momentFine}
 use Rattle.cells.specs.Cells.{sideSize}

@@ -9,10 +9,10 @@ use lib.Dec.{ltb, leb, eqb}
 use lib.IntN.{pos, negsuc, natAbs}
 use lib.ListN.{getD}
 use borrow.Author.Tests.{leb-true, leb-false, ltb-true, ltb-false, eqb-true, eqb-false, le-leb, lt-leb, lt-ltb, eq-eqb, ne-eqb}
-use Rattle.price.specs.Price as price
-use Rattle.price.specs.Held.{heldTop, ofHeld}
-use Rattle.price.proofs.Holding.{held-of-held, held-small, small-held}
-use Rattle.orderid.specs.OrderIds.{top, full, idSound}
+use Rattle.holding.specs.Prices as price
+use Rattle.holding.specs.Prices.{heldTop, ofHeld}
+use Rattle.holding.proofs.Holding.{held-of-held, held-small, small-held}
+use Rattle.holding.specs.OrderIds.{top, full, idSound}
 use Rattle.cells.specs.Cells.{entryAt, updateAt}
 use Rattle.board.specs.Ranges.{within, mostOrders, priceFine, momentFine, ordersFine, byFine, entryFine, noneFine, updateFine}
 use Rattle.board.proofs.Tested.{both}

@@ -8,7 +8,7 @@ use lib.Dec.{leb}
 use lib.ListN.{length, getD, List·getD-eq-default}
 use lib.Seq.{getD-take}
 use borrow.Author.Tests.{leb-true, le-leb}
-use Rattle.price.specs.Held.{heldOf}
+use Rattle.holding.specs.Prices.{heldOf}
 use Rattle.book.specs.declared.Entry.{Entry}
 use Rattle.book.specs.Sides.{noEntry}
 use Rattle.book.specs.Canonical.{Kept, heldIn}

@@ -5,3 +5,4 @@ pub mod Marked
 pub mod Kept
 pub mod Cleared
 pub mod Saved
+pub mod States

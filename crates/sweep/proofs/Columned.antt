@@ -8,7 +8,7 @@ use lib.Dec.{ltb, leb, eqb}
 use lib.Bits.{bitOr, or-add-and, and-le-l, and-le-r}
 use lib.ListN.{getD}
 use borrow.Author.Tests.{ltb-true, ltb-false, leb-true, eqb-true, le-leb, lt-ltb, le-ltb, eq-eqb}
-use Rattle.price.specs.Held.{heldTop}
+use Rattle.holding.specs.Prices.{heldTop}
 use Rattle.board.proofs.Tested.{both, is-within}
 use Rattle.sides.specs.Side.{each, allZero, moreTo, entryScan, sideScan, roomOf}
 use Rattle.sides.proofs.Each.{each-of}

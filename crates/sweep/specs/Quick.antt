@@ -6,7 +6,7 @@ use mathlib.Core.List.{List}
 use Prim.Native.Nat.{ℕ, _+_, _*_, _/_, _^_, _≤_, _<_}
 use lib.Dec.{ltb, leb, eqb}
 use lib.ListN.{getD}
-use Rattle.price.specs.Held.{heldTop}
+use Rattle.holding.specs.Prices.{heldTop}
 use Rattle.board.specs.Ranges.{momentFine}
 use Rattle.sides.specs.Side.{moreTo, sideScan, roomOf}
 use Rattle.sweep.specs.declared.Columns.{Columns}

@@ -10,6 +10,7 @@ use lib.Dec.{eqb}
 use lib.ListN.{length, take, drop, set, replicate, length-set}
 use lib.Seq.{take-all, take-suc-set, length-take-le}
 use Rattle.book.specs.declared.Entry.{Entry}
+use Rattle.book.specs.declared.Book.{Book}
 use Rattle.book.specs.declared.Side.{Side}
 use Rattle.book.specs.declared.Update.{Update}
 use Rattle.book.specs.Sides.{noEntry, pad}
@@ -69,6 +70,9 @@ shows-put places n e rest total h s =
 
 side-by : {a b : List Entry} {n m : ℕ} → a ≡ b → n ≡ m → _≡_ {A = Side} (record { places = a; held = n }) (record { places = b; held = m })
 side-by h g = cc
+
+pub book-by : {s t u v : Side} → s ≡ t → u ≡ v → _≡_ {A = Book} (record { bids = s; offers = u }) (record { bids = t; offers = v })
+book-by h g = cc
 
 pub shows-end : (places : List Entry) (n : ℕ) (total : List Entry) → Shows places n [] total → _≡_ {A = Side} (record { places = places; held = n }) (sideOf total)
 shows-end places n total s =

@@ -2,7 +2,7 @@
 use mathlib.Core.Path.{sym}
 use native.Mathlib.Omega.{arith}
 use mir.Facts.{toZ-ofZ}
-use Rattle.price.proofs.Holding.{flip-fits, flip-back, held-plus}
+use Rattle.holding.proofs.Holding.{flip-fits, flip-back, held-plus}
 use Rattle.ask.proofs.Signs.{bits-minus, bits-plus}
 use Rattle.ask.proofs.bits.Statement.{statement}
 use Rattle.ask.proofs.bits.Tie as tie

@@ -7,7 +7,7 @@ use Rattle.ask.specs.Ask.{quoteNumber}
 use Rattle.ask.specs.Fine.{FineQuoted}
 use Rattle.sound.proofs.Readers.{formed, board, marks}
 use Rattle.ask.proofs.Facts.{ready}
-use Rattle.ask.proofs.Quoting.{quoted-fine}
+use Rattle.ask.proofs.Quoting.{quoted-fine, room-by}
 use borrow.Author.Needs.{needs}
 use Rattle.ask.proofs.quote_into.Statement.{statement}
 use Rattle.ask.proofs.quote_into.Tie as tie
@@ -42,7 +42,7 @@ returns c =
     let e : c .before .before .before .before .quote-for .result ≡ quoteOf (x .id) (x .time .now) (x .limit) (boardAt (x .store .now)) =
     c .before .before .before .before .quote-for .ensures ∙ ap (λ (h : Heading). quoteOf (x .id) (x .time .now) (x .limit) (boardOf h (x .store .now))) h in
     let d : c .before .before .before .before .before .load-heading .result .depth ≡ boardAt (x .store .now) .depth = ap (λ (h : Heading). h .depth) h in
-    (c .before .before .tell .ensures .0 ∙ ap quoteNumber e, c .before .before .tell .ensures .1 ∙ cc)
+    (c .before .before .tell .ensures .0 ∙ ap quoteNumber e, c .before .before .tell .ensures .1 ∙ room-by (c .before .before .tell .result) (x .out .now) d e)
 
 pub quote-into-spec : {M : Type 1} → statement M
 quote-into-spec =

@@ -1,7 +1,7 @@
 -- `save_entry` meets its contract: five stores in a row.
 use mir.Facts.{toZ-ofZ}
 use mir.Syntax.{w64}
-use Rattle.price.specs.Held.{heldOf}
+use Rattle.holding.specs.Prices.{heldOf}
 use mathlib.Core.Path.{_≡_, ap, _∙_}
 use lib.ListN.{length-set}
 use native.Mathlib.Numerals.{towards-suc}

@@ -1,4 +1,10 @@
 -- `break_off` meets its contract.
+use mathlib.Core.Path.{ap}
+use mathlib.Core.List.{List, [], _∷_}
+use Prim.Native.Nat.{ℕ}
+use lib.Seq.{sets}
+use Rattle.store.specs.Layout.{reasonOf}
+use Rattle.store.proofs.States.{state-by}
 use borrow.Author.Needs.{needs}
 use Rattle.deliver.proofs.break_off.Statement.{statement}
 use Rattle.deliver.proofs.break_off.Tie as tie
@@ -31,7 +37,10 @@ same-length : tie.Need-same-length
 same-length c = search needs
 
 returns : tie.Need-returns
-returns c = cc
+returns c =
+    let a = c .before .before .before .before .before .before .args in
+    state-by (c .wait .ensures)
+    (ap (λ (xs : List ℕ). sets xs (reasonOf (a .i)) (a .reason ∷ [])) (c .before .before .before .zero-run .ensures))
 
 pub break-off-spec : {M : Type 1} → statement M
 break-off-spec =

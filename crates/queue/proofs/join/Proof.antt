@@ -1,10 +1,12 @@
 -- `join` meets its contract: the entries are counted before any joins.
-use Rattle.queue.specs.Joins.{overS, joinS}
+use Rattle.queue.specs.Joins.{howMany, overS, joinS}
 use Rattle.store.specs.Meaning.{st}
 use Rattle.cells.specs.Runs.{updatesIn}
 use borrow.Author.Tests.{lt-ltb, le-ltb}
 use mathlib.Core.Bool.{true, false}
 use mathlib.Core.Path.{_≡_, sym}
+use Prim.Native.Nat.{_+_}
+use native.Mathlib.Omega.{arith}
 use borrow.Author.Needs.{needs}
 use Rattle.queue.proofs.join.Statement.{statement}
 use Rattle.queue.proofs.join.Tie as tie
@@ -25,7 +27,7 @@ returns : tie.Need-returns
 unfolding joinS
 returns c =
     let a = c .before .before .before .before .before .before .before .before .before .args in
-    let t : overS (updatesIn (a .run .now) (a .count)) (st (a .h) (a .store .now)) ≡ true = lt-ltb 256 _ (rw (c .before .before .before .before .before .before .how-many .ensures .0) at (c .before .before .before .before .if1 .taken)) in
+    let t : overS (updatesIn (a .run .now) (a .count)) (st (a .h) (a .store .now)) ≡ true = lt-ltb 256 (a .h .queued + howMany (a .h .followed) (updatesIn (a .run .now) (a .count))) (omega (arith, c .before .before .before .before .before .before .how-many .ensures .0, c .before .before .before .before .if1 .taken)) in
     record { over = sym t; state = rw t (c .before .before .let-go .ensures) }
 
 join-all-requires : tie.Need-join-all-requires
@@ -38,7 +40,7 @@ returns-2 : tie.Need-returns-2
 unfolding joinS
 returns-2 c =
     let a = c .before .before .before .before .before .before .before .before .before .args in
-    let t : overS (updatesIn (a .run .now) (a .count)) (st (a .h) (a .store .now)) ≡ false = le-ltb 256 _ (rw (c .before .before .before .before .before .before .how-many .ensures .0) at (c .before .before .before .before .if1 .left)) in
+    let t : overS (updatesIn (a .run .now) (a .count)) (st (a .h) (a .store .now)) ≡ false = le-ltb 256 (a .h .queued + howMany (a .h .followed) (updatesIn (a .run .now) (a .count))) (omega (arith, c .before .before .before .before .before .before .how-many .ensures .0, c .before .before .before .before .if1 .left)) in
     record { over = sym t; state = rw t (c .before .before .join-all .ensures) }
 
 pub join-spec : {M : Type 1} → statement M

@@ -1,5 +1,6 @@
 -- `let_go` meets its contract.
 use borrow.Author.Needs.{needs}
+use Rattle.store.proofs.States.{state-by}
 use Rattle.queue.proofs.let_go.Statement.{statement}
 use Rattle.queue.proofs.let_go.Tie as tie
 
@@ -13,7 +14,7 @@ same-length : tie.Need-same-length
 same-length c = search needs
 
 returns : tie.Need-returns
-returns c = cc
+returns c = state-by (c .let-go .ensures) (c .before .before .before .zero-run .ensures)
 
 pub let-go-spec : {M : Type 1} → statement M
 let-go-spec = tie.close (tie.spec zero-run-requires let-go-requires same-length returns)

@@ -1,8 +1,9 @@
 -- `slot` meets its contract: each test that leaves is one of the definition's.
+use mathlib.Core.Path.{sym, _∙_}
 use borrow.Author.Tests.{lt-ltb, le-ltb, not-true, not-false}
 use lib.ListN.{getD}
 use Rattle.scan.specs.Scan.{slotScan}
-use Rattle.sides.proofs.Tests.{out-of, inside}
+use Rattle.sides.proofs.Tests.{out-of, inside, held-first, past, stops}
 use borrow.Author.Needs.{needs}
 use Rattle.scan.proofs.slot.Statement.{statement}
 use Rattle.scan.proofs.slot.Tie as tie
@@ -17,7 +18,7 @@ returns : tie.Need-returns
 unfolding slotScan
 returns c =
     let a = c .before .before .before .args in
-    simp (out-of (a .low) (a .high) (getD (a .store .now) (a .at) 0) (c .if1 .taken))
+    stops _ (out-of (a .low) (a .high) (getD (a .store .now) (a .at) 0) (c .if1 .taken))
 
 add-if2 : tie.Need-add-if2
 add-if2 c = search needs
@@ -32,7 +33,7 @@ returns-2 : tie.Need-returns-2
 unfolding slotScan
 returns-2 c =
     let a = c .before .before .before .before .before .args in
-    simp (inside (a .low) (a .high) (getD (a .store .now) (a .at) 0) (c .before .before .if1 .left), le-ltb _ _ (c .if2 .taken))
+    past (inside (a .low) (a .high) (getD (a .store .now) (a .at) 0) (c .before .before .if1 .left)) (stops _ (le-ltb _ _ (c .if2 .taken)))
 
 add-update : tie.Need-add-update
 add-update c = search needs
@@ -44,8 +45,9 @@ returns-3 : tie.Need-returns-3
 unfolding slotScan
 returns-3 c =
     let a = c .before .before .before .before .before .before .before .args in
-    simp
-    (inside (a .low) (a .high) (getD (a .store .now) (a .at) 0) (c .before .before .before .before .if1 .left), lt-ltb _ _ (c .before .before .if2 .left), ← c .before .update .ensures, not-true (c .before .update .result) (c .if3 .taken))
+    past (inside (a .low) (a .high) (getD (a .store .now) (a .at) 0) (c .before .before .before .before .if1 .left))
+    (past (lt-ltb _ _ (c .before .before .if2 .left))
+    (stops _ (sym (c .before .update .ensures) ∙ not-true (c .before .update .result) (c .if3 .taken))))
 
 add-result : tie.Need-add-result
 add-result c = search needs
@@ -60,8 +62,9 @@ returns-4 : tie.Need-returns-4
 unfolding slotScan
 returns-4 c =
     let a = c .before .before .before .before .before .before .before .before .args in
-    simp
-    (inside (a .low) (a .high) (getD (a .store .now) (a .at) 0) (c .before .before .before .before .before .if1 .left), lt-ltb _ _ (c .before .before .before .if2 .left), ← c .before .before .update .ensures, not-false (c .before .before .update .result) (c .before .if3 .left))
+    past (inside (a .low) (a .high) (getD (a .store .now) (a .at) 0) (c .before .before .before .before .before .if1 .left))
+    (past (lt-ltb _ _ (c .before .before .before .if2 .left))
+    (held-first (sym (c .before .before .update .ensures) ∙ not-false (c .before .before .update .result) (c .before .if3 .left))))
 
 pub slot-spec : {M : Type 1} → statement M
 slot-spec =

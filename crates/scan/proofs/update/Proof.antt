@@ -1,10 +1,9 @@
 -- `update` meets its contract: each test that leaves is one of the definition's.
-use mathlib.Core.Path.{_∙_}
 use Prim.Native.Nat.{_+_}
 use borrow.Author.Tests.{lt-leb, le-leb}
 use lib.ListN.{getD}
 use Rattle.scan.specs.Scan.{updateScan}
-use Rattle.sides.proofs.Tests.{out-of, inside}
+use Rattle.sides.proofs.Tests.{out-of, inside, past, stops, chosen, other}
 use borrow.Author.Needs.{needs}
 use Rattle.scan.proofs.update.Statement.{statement}
 use Rattle.scan.proofs.update.Tie as tie
@@ -45,13 +44,14 @@ returns c = rw (c .zero .ensures, lt-leb _ _ (c .before .if1 .taken))
 
 returns-2 : tie.Need-returns-2
 unfolding updateScan
-returns-2 c = simp (le-leb _ _ (c .before .if1 .left), lt-leb _ _ (c .if2 .taken))
+returns-2 c = chosen _ (le-leb _ _ (c .before .if1 .left)) (stops _ (lt-leb _ _ (c .if2 .taken)))
 
 returns-3 : tie.Need-returns-3
 unfolding updateScan
 returns-3 c =
     let a = c .before .before .before .before .before .before .before .args in
-    simp (le-leb _ _ (c .before .before .if1 .left), le-leb _ _ (c .before .if2 .left), out-of 1 65535 (getD (a .store .now) (a .at + 2) 0) (c .if3 .taken))
+    chosen _ (le-leb _ _ (c .before .before .if1 .left))
+    (past (le-leb _ _ (c .before .if2 .left)) (stops _ (out-of 1 65535 (getD (a .store .now) (a .at + 2) 0) (c .if3 .taken))))
 
 add-entry : tie.Need-add-entry
 add-entry c = search needs
@@ -63,9 +63,10 @@ returns-4 : tie.Need-returns-4
 unfolding updateScan
 returns-4 c =
     let a = c .before .before .before .before .before .before .before .before .before .args in
-    c .entry .ensures
-    ∙ simp
-    (le-leb _ _ (c .before .before .before .before .if1 .left), le-leb _ _ (c .before .before .before .if2 .left), inside 1 65535 (getD (a .store .now) (a .at + 2) 0) (c .before .before .if3 .left), le-leb _ _ (c .before .if4 .taken))
+    chosen _ (le-leb _ _ (c .before .before .before .before .if1 .left))
+    (past (le-leb _ _ (c .before .before .before .if2 .left))
+    (past (inside 1 65535 (getD (a .store .now) (a .at + 2) 0) (c .before .before .if3 .left))
+    (chosen _ (le-leb _ _ (c .before .if4 .taken)) (c .entry .ensures))))
 
 add-zero-2 : tie.Need-add-zero-2
 add-zero-2 c = search needs
@@ -77,9 +78,10 @@ returns-5 : tie.Need-returns-5
 unfolding updateScan
 returns-5 c =
     let a = c .before .before .before .before .before .before .before .before .before .args in
-    c .zero2 .ensures
-    ∙ simp
-    (le-leb _ _ (c .before .before .before .before .if1 .left), le-leb _ _ (c .before .before .before .if2 .left), inside 1 65535 (getD (a .store .now) (a .at + 2) 0) (c .before .before .if3 .left), lt-leb _ _ (c .before .if4 .left))
+    chosen _ (le-leb _ _ (c .before .before .before .before .if1 .left))
+    (past (le-leb _ _ (c .before .before .before .if2 .left))
+    (past (inside 1 65535 (getD (a .store .now) (a .at + 2) 0) (c .before .before .if3 .left))
+    (other _ (lt-leb _ _ (c .before .if4 .left)) (c .zero2 .ensures))))
 
 pub update-spec : {M : Type 1} → statement M
 update-spec =

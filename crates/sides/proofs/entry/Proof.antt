@@ -1,9 +1,11 @@
 -- `entry` meets its contract: each test that leaves is one of the definition's.
+use mathlib.Core.Path.{sym, ap, _∙_}
 use Prim.Native.Nat.{_+_}
+use lib.Dec.{leb}
 use borrow.Author.Tests.{lt-leb, le-leb}
 use lib.ListN.{getD}
 use Rattle.sides.specs.Side.{entryScan}
-use Rattle.sides.proofs.Tests.{out-of, inside}
+use Rattle.sides.proofs.Tests.{out-of, inside, held-first, past, stops}
 use borrow.Author.Needs.{needs}
 use Rattle.sides.proofs.entry.Statement.{statement}
 use Rattle.sides.proofs.entry.Tie as tie
@@ -16,7 +18,7 @@ shared-slice-read-if1 c = search needs
 
 returns : tie.Need-returns
 unfolding entryScan
-returns c = simp (lt-leb _ _ (c .if1 .taken))
+returns c = stops _ (lt-leb _ _ (c .if1 .taken))
 
 add-size : tie.Need-add-size
 add-size c = search needs
@@ -32,7 +34,7 @@ unfolding entryScan
 returns-2 c =
     let a = c .before .before .before .before .before .args in
     let size = getD (a .store .now) (a .at + 1) 0 in
-    simp (le-leb _ _ (c .before .before .if1 .left), out-of 1 999999999999 size (c .if2 .taken))
+    past (le-leb _ _ (c .before .before .if1 .left)) (stops _ (out-of 1 999999999999 size (c .if2 .taken)))
 
 add-by : tie.Need-add-by
 add-by c = search needs
@@ -49,7 +51,8 @@ returns-3 c =
     let a = c .before .before .before .before .before .before .before .args in
     let size = getD (a .store .now) (a .at + 1) 0 in
     let by = getD (a .store .now) (a .at + 2) 0 in
-    simp (le-leb _ _ (c .before .before .before .before .if1 .left), inside 1 999999999999 size (c .before .before .if2 .left), out-of 1 (a .most) by (c .if3 .taken))
+    past (le-leb _ _ (c .before .before .before .before .if1 .left))
+    (past (inside 1 999999999999 size (c .before .before .if2 .left)) (stops _ (out-of 1 (a .most) by (c .if3 .taken))))
 
 more-to-requires : tie.Need-more-to-requires
 more-to-requires c κs = search needs
@@ -69,8 +72,11 @@ returns-4 c =
     let a = c .before .before .before .before .before .before .before .before .before .before .args in
     let size = getD (a .store .now) (a .at + 1) 0 in
     let by = getD (a .store .now) (a .at + 2) 0 in
-    simp
-    (le-leb _ _ (c .before .before .before .before .before .before .before .if1 .left), inside 1 999999999999 size (c .before .before .before .before .before .if2 .left), inside 1 (a .most) by (c .before .before .before .if3 .left), ← c .before .before .more-to .ensures, lt-leb _ _ (c .if4 .taken))
+    let more = getD (a .store .now) (a .at + 3) 0 in
+    past (le-leb _ _ (c .before .before .before .before .before .before .before .if1 .left))
+    (past (inside 1 999999999999 size (c .before .before .before .before .before .if2 .left))
+    (past (inside 1 (a .most) by (c .before .before .before .if3 .left))
+    (stops _ (ap (leb more) (sym (c .before .before .more-to .ensures)) ∙ lt-leb _ _ (c .if4 .taken)))))
 
 add-result : tie.Need-add-result
 add-result c = search needs
@@ -87,8 +93,11 @@ returns-5 c =
     let a = c .before .before .before .before .before .before .before .before .before .before .before .args in
     let size = getD (a .store .now) (a .at + 1) 0 in
     let by = getD (a .store .now) (a .at + 2) 0 in
-    simp
-    (le-leb _ _ (c .before .before .before .before .before .before .before .before .if1 .left), inside 1 999999999999 size (c .before .before .before .before .before .before .if2 .left), inside 1 (a .most) by (c .before .before .before .before .if3 .left), ← c .before .before .before .more-to .ensures, le-leb _ _ (c .before .if4 .left))
+    let more = getD (a .store .now) (a .at + 3) 0 in
+    past (le-leb _ _ (c .before .before .before .before .before .before .before .before .if1 .left))
+    (past (inside 1 999999999999 size (c .before .before .before .before .before .before .if2 .left))
+    (past (inside 1 (a .most) by (c .before .before .before .before .if3 .left))
+    (held-first (ap (leb more) (sym (c .before .before .before .more-to .ensures)) ∙ le-leb _ _ (c .before .if4 .left)))))
 
 pub entry-spec : {M : Type 1} → statement M
 entry-spec =

@@ -4,7 +4,7 @@ use Prim.Native.Nat.{_-_, _≤_}
 use native.Mathlib.Omega.{arith}
 use lib.Dec.{eqb}
 use Rattle.sides.specs.Side.{allZero}
-use Rattle.sides.proofs.Each.{zero-none, zero-more, or-zero}
+use Rattle.sides.proofs.Each.{zero-none, zero-turn}
 use borrow.Author.Needs.{needs}
 use Rattle.sides.proofs.joined.Statement.{statement}
 use Rattle.sides.proofs.joined.Tie as tie
@@ -34,7 +34,7 @@ loop-less : tie.Need-loop-less Inv-loop μ-loop
 loop-less c = search needs
 
 loop-again : tie.Need-loop-again Inv-loop μ-loop
-loop-again c = (omega arith, rw (zero-more, or-zero, c .before .before .loop .inv .1))
+loop-again c = (omega arith, zero-turn _ _ _ (c .before .before .loop .acc) (c .before .before .loop .inv .1))
 
 returns : tie.Need-returns Inv-loop μ-loop
 returns c =

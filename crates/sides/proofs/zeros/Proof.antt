@@ -4,7 +4,7 @@ use Prim.Native.Nat.{_-_, _/_, _≤_}
 use native.Mathlib.Omega.{arith}
 use lib.Dec.{eqb}
 use Rattle.sides.specs.Side.{allZero}
-use Rattle.sides.proofs.Each.{zero-none, zero-more, or-zero, quarters}
+use Rattle.sides.proofs.Each.{zero-none, zero-turn, quarters}
 use borrow.Author.Needs.{needs}
 use Rattle.sides.proofs.zeros.Statement.{statement}
 use Rattle.sides.proofs.zeros.Tie as tie
@@ -72,8 +72,9 @@ loop-less c = search needs
 
 loop-again : tie.Need-loop-again Inv-loop μ-loop
 loop-again c =
-    let v = c .before .before .before .before .before .loop .inv in
-    (omega arith, rw (zero-more, or-zero, v .1), rw (zero-more, or-zero, v .2), rw (zero-more, or-zero, v .3), rw (zero-more, or-zero, v .4))
+    let l = c .before .before .before .before .before .loop in
+    let v = l .inv in
+    (omega arith, zero-turn _ _ _ (l .a) (v .1), zero-turn _ _ _ (l .b) (v .2), zero-turn _ _ _ (l .c) (v .3), zero-turn _ _ _ (l .d) (v .4))
 
 add-zero : tie.Need-add-zero Inv-loop μ-loop
 add-zero c = search needs

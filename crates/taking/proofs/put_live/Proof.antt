@@ -1,6 +1,12 @@
 -- `put_live` meets its contract.
 use lib.ListN.{length-set}
-use mathlib.Core.Path.{_∙_}
+use lib.Seq.{sets}
+use mathlib.Core.Path.{ap, _∙_}
+use mathlib.Core.List.{List, [], _∷_}
+use Prim.Native.Nat.{ℕ}
+use Rattle.cells.specs.Cells.{sideWords}
+use Rattle.store.specs.Layout.{offersOf, reasonOf}
+use Rattle.store.proofs.States.{state-by}
 use borrow.Author.Needs.{needs}
 use Rattle.taking.proofs.put_live.Statement.{statement}
 use Rattle.taking.proofs.put_live.Tie as tie
@@ -42,7 +48,12 @@ same-length : tie.Need-same-length
 same-length c = simp length-set (c .before .before .before .save-side2 .kept .0 ∙ c .before .before .before .before .before .before .before .save-side .kept .0)
 
 returns : tie.Need-returns
-returns c = cc
+returns c =
+    let a = c .before .before .before .before .before .before .before .before .before .before .before .before .args in
+    state-by (c .live .ensures)
+    (ap (λ (xs : List ℕ). sets xs (reasonOf (a .i)) (0 ∷ []))
+    (c .before .before .before .save-side2 .ensures
+    ∙ ap (λ (xs : List ℕ). sets xs (offersOf (a .i)) (sideWords (a .b .offers))) (c .before .before .before .before .before .before .before .save-side .ensures)))
 
 pub put-live-spec : {M : Type 1} → statement M
 put-live-spec =

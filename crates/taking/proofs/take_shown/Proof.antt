@@ -11,6 +11,7 @@ use lib.ListN.{length}
 use lib.Dec.{ltb}
 use native.Mathlib.Omega.{arith}
 use mathlib.Core.Path.{_≡_, ap, _∙_}
+use Rattle.taking.proofs.Showing.{book-by}
 use borrow.Author.Needs.{needs}
 use Rattle.taking.proofs.take_shown.Statement.{statement}
 use Rattle.taking.proofs.take_shown.Tie as tie
@@ -48,7 +49,8 @@ returns-3 c =
     let us = updatesIn (a .run .now) (a .count) in
     let n : c .before .before .before .before .before .before .before .before .before .show .result .held ≡ length (entriesOf 0 us) = ap (λ (x : Side). x .held) (c .before .before .before .before .before .before .before .before .before .show .ensures) in
     let m : c .before .before .before .before .before .before .before .before .show2 .result .held ≡ length (entriesOf 1 us) = ap (λ (x : Side). x .held) (c .before .before .before .before .before .before .before .before .show2 .ensures) in
-    let b : _≡_ {A = Book} (record { bids = c .before .before .before .before .before .before .before .before .before .show .result; offers = c .before .before .before .before .before .before .before .before .show2 .result }) (bookOf (shown us)) = cc in
+    let b : _≡_ {A = Book} (record { bids = c .before .before .before .before .before .before .before .before .before .show .result; offers = c .before .before .before .before .before .before .before .before .show2 .result }) (bookOf (shown us))
+    = book-by (c .before .before .before .before .before .before .before .before .before .show .ensures) (c .before .before .before .before .before .before .before .before .show2 .ensures) in
     rw (le-ltb 20 (length (entriesOf 0 us)) (omega (arith, n, c .before .before .before .before .before .before .if1 .left)), le-ltb 20 (length (entriesOf 1 us)) (omega (arith, m, c .before .before .before .before .if2 .left)))
     (c .before .before .take .ensures ∙ ap (λ (x : Book). takeS (a .i) (a .last) x (st (a .h) (a .store .now))) b)
 

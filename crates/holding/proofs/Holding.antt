@@ -11,8 +11,7 @@ use borrow.Author.Tests.{ltb-true, le-ltb, eq-eqb, ne-eqb, eqb-true, eqb-false}
 use mir.Syntax.{w64}
 use mir.Val.{SFits, toZ, ofZ}
 use mir.Facts.{toZ-ofZ, toZ-pos}
-use Rattle.price.specs.Price.{top}
-use Rattle.price.specs.Held.{heldOf, ofHeld, heldTop}
+use Rattle.holding.specs.Prices.{heldOf, ofHeld, top, heldTop}
 
 half-even : (n : ℕ) → n * 2 / 2 ≡ n
 half-even n = omega arith

@@ -1,12 +1,12 @@
--- `price::held` meets its contract. Assumes nothing.
+-- `holding::held` meets its contract. Assumes nothing.
 use mathlib.Core.Path.{sym, ap, _∙_}
 use native.Mathlib.Omega.{arith}
 use Prim.Native.Nat.{_*_}
 use lib.IntN.{ℤ, natAbs}
 use mir.Facts.{toZ-ofZ}
-use Rattle.price.proofs.Holding.{flip-fits, flip-back, held-minus, held-plus}
-use Rattle.price.proofs.held.Statement.{statement}
-use Rattle.price.proofs.held.Tie as tie
+use Rattle.holding.proofs.Holding.{flip-fits, flip-back, held-minus, held-plus}
+use Rattle.holding.proofs.held.Statement.{statement}
+use Rattle.holding.proofs.held.Tie as tie
 
 sub-result : tie.Need-sub-result
 sub-result c = flip-fits (c .before .args .p) (c .before .fits .p) (c .if1 .taken)

@@ -1,9 +1,9 @@
--- `price::of_held` meets its contract. Assumes nothing.
+-- `holding::of_held` meets its contract. Assumes nothing.
 use native.Mathlib.Omega.{arith}
 use borrow.Author.Needs.{needs}
-use Rattle.price.proofs.Holding.{even, odd, odd-fits}
-use Rattle.price.proofs.of_held.Statement.{statement}
-use Rattle.price.proofs.of_held.Tie as tie
+use Rattle.holding.proofs.Holding.{even, odd, odd-fits}
+use Rattle.holding.proofs.of_held.Statement.{statement}
+use Rattle.holding.proofs.of_held.Tie as tie
 
 cast-m : tie.Need-cast-m
 cast-m c = search needs

@@ -1,0 +1,3 @@
+pub mod Prices
+pub mod Moments
+pub mod OrderIds

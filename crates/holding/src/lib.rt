@@ -1,0 +1,25 @@
+// The numbers that hold a price, a moment and an order id, each an index of one contiguous range, so that what is held is sound
+// by comparisons alone (document 01: "All books live in one lent run of 64-bit numbers").
+ghost use mathlib.Core.Path.{_≡_};
+ghost use Rattle.holding.specs.Prices.{heldOf, ofHeld};
+
+// The number that holds a price: 0 for 0, then 1 for the first below, 2 for the first above, and so on. Every number of
+// 64 bits holds one price, and the prices of tag 270 fill one range from 0.
+pub fn held(p: i64) -> u64
+    ensures { λ r. ⌜ r ≡ heldOf p ⌝ }
+{
+    if p < 0 {
+        return ((-1 - p) as u64) * 2 + 1;
+    }
+    (p as u64) * 2
+}
+
+pub fn of_held(w: u64) -> i64
+    ensures { λ r. ⌜ r ≡ ofHeld w ⌝ }
+{
+    let m = (w / 2) as i64;
+    if w % 2 == 0 {
+        return m;
+    }
+    -1 - m
+}
