@@ -14,7 +14,7 @@ use Rattle.frame.specs.Fields.{Field}
 use Rattle.tags.specs.Tags.{namedTags, has, tidy, allTidy, upTo, parts, lookup}
 use Rattle.tags.specs.Slots.{between}
 use Rattle.tags.proofs.Tidiness.{fits, tidy-stray}
-use Rattle.entries.specs.Values.{_>>=_, need}
+use Rattle.values.specs.Values.{_>>=_, need}
 use Rattle.group.specs.Groups.{each, running, nextOn, nextAfter, firsts}
 use Rattle.group.specs.Listed.{entryIn, atNext, entryNext, ordered, grouped}
 use Rattle.group.specs.declared.Next.{Next}

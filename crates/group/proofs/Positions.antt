@@ -6,7 +6,7 @@ use borrow.Author.Tests.{eq-eqb, ne-eqb}
 use Rattle.book.specs.declared.Update.{Update}
 use Rattle.message.specs.Message.{refused, told}
 use Rattle.message.specs.declared.Refusal.the-variants.{BadFields}
-use Rattle.entries.specs.Values.{_>>=_, Values}
+use Rattle.values.specs.Values.{_>>=_, Values}
 use Rattle.entries.specs.Entries.{entryInX, entryInW}
 use Rattle.group.specs.Groups.{nextOn}
 use Rattle.group.specs.Listed.{entryIn, atNext, entryNext, answered}

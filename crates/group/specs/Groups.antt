@@ -8,7 +8,7 @@ use lib.ListN.{length}
 use Rattle.book.specs.declared.Update.{Update}
 use Rattle.frame.specs.Fields.{Field}
 use Rattle.tags.specs.Tags.{namedTags, tidy, allTidy, upTo, past, parts, lookup}
-use Rattle.entries.specs.Values.{_>>=_, need, Values, countAt}
+use Rattle.values.specs.Values.{_>>=_, need, Values, countAt}
 use Rattle.group.specs.declared.Next.{Next}
 
 -- The group of X and W follows 268 and has exactly as many entries as 268 says, each beginning with the first tag; before

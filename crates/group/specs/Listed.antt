@@ -12,7 +12,7 @@ use Rattle.message.specs.declared.Refusal.the-variants.{BadFields}
 use Rattle.frame.specs.Fields.{Field}
 use Rattle.tags.specs.Tags.{namedTags, has, tidy, allTidy, upTo, parts}
 use Rattle.tags.specs.Slots.{between, breaks}
-use Rattle.entries.specs.Values.{_>>=_, need, Values}
+use Rattle.values.specs.Values.{_>>=_, need, Values}
 use Rattle.entries.specs.Entries.{entryInX, entryInW}
 use Rattle.group.specs.Groups.{each, running, nextOn, firsts}
 use Rattle.group.specs.declared.Next.{Next}

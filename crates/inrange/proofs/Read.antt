@@ -16,7 +16,7 @@ use Rattle.frame.specs.Fields.{Field}
 use Rattle.frame.specs.Frames.{frameOf, bodyOf}
 use Rattle.frame.specs.declared.Framed.{Framed}
 use Rattle.tags.specs.Tags.{namedTags, otherTags, headX, headW, entryX, entryW, tidy, allTidy, upTo, past, parts, lookup}
-use Rattle.entries.specs.Values.{Values, seqAt, heardAt, instrumentAt, lastAt, loopsAt, countAt}
+use Rattle.values.specs.Values.{Values, seqAt, heardAt, instrumentAt, lastAt, loopsAt, countAt}
 use Rattle.entries.specs.Entries.{entryInX, entryInW}
 use Rattle.group.specs.Groups.{groupOf, onto, each, running, firsts}
 use Rattle.lead.specs.Messages.{otherOf, changesOf, headOf, snapshotOf, orBadFields, typedAs}

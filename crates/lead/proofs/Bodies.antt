@@ -22,7 +22,7 @@ use Rattle.frame.proofs.Walk.{left-on, left-no, walked, allTagged}
 use Rattle.tags.specs.Tags.{namedTags, otherTags, headX, headW, entryX, entryW, has, tidy, allTidy, upTo, past, onward, parts, lookup}
 use Rattle.tags.specs.Slots.{slotOf, below, between, marked, Holds}
 use Rattle.tags.specs.declared.Marks.{Marks}
-use Rattle.entries.specs.Values.{_>>=_, need, Values, number, seqAt, heardAt, instrumentAt, lastAt, loopsAt}
+use Rattle.values.specs.Values.{_>>=_, need, Values, number, seqAt, heardAt, instrumentAt, lastAt, loopsAt}
 use Rattle.entries.specs.Entries.{entryInX, entryInW}
 use Rattle.entries.proofs.Same.{instrument-same}
 use Rattle.group.specs.Groups.{groupOf, each, running, firsts}

@@ -15,7 +15,7 @@ use Rattle.frame.specs.declared.Step.{Step}
 use Rattle.tags.specs.Slots.{noMarks, marked}
 use Rattle.tags.specs.Walks.{walkOn}
 use Rattle.tags.specs.declared.Place.{Place}
-use Rattle.entries.specs.Values.{Values}
+use Rattle.values.specs.Values.{Values}
 use Rattle.group.specs.declared.Top.{Top}
 use Rattle.lead.specs.Leads.{topX, topW}
 use Rattle.lead.specs.declared.Lead.{Lead}

@@ -8,7 +8,7 @@ use Rattle.message.specs.Message.{Head, Message, numbered, snapshot, refused}
 use Rattle.message.specs.declared.Refusal.the-variants.{BadFields}
 use Rattle.frame.specs.Fields.{Field}
 use Rattle.tags.specs.Tags.{namedTags, otherTags, headX, headW, entryX, entryW, tidy, upTo, past, lookup}
-use Rattle.entries.specs.Values.{_>>=_, need, Values, seqAt, heardAt, instrumentAt, lastAt, loopsAt}
+use Rattle.values.specs.Values.{_>>=_, need, Values, seqAt, heardAt, instrumentAt, lastAt, loopsAt}
 use Rattle.entries.specs.Entries.{entryInX, entryInW}
 use Rattle.group.specs.Groups.{groupOf, each, running, firsts}
 

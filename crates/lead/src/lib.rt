@@ -75,7 +75,7 @@ fn top_w(s: &[u8], m: Marks) -> Topped
     let Topped::Is(t) = top_x(s, m) else {
         return Topped::No;
     };
-    let Number::Is(id) = entries::instrument(s, m) else {
+    let Number::Is(id) = values::instrument(s, m) else {
         return Topped::No;
     };
     let Number::Is(last) = digits::ranged(

@@ -19,7 +19,7 @@ use Rattle.book.specs.Rules.{Lists, empty}
 use Rattle.book.specs.declared.Entry.{Entry}
 use Rattle.board.specs.Ranges.{entryFine}
 use Rattle.board.specs.Sound.{SoundSide}
-use Rattle.writer.specs.Snapshot.{Letter, sideFields, snapshotFields, snapshotBytes}
+use Rattle.snapshot.specs.Snapshot.{Letter, sideFields, snapshotFields, snapshotBytes}
 use Rattle.roundtrip.specs.ReadBack.{InRange, BothReached}
 
 -- ---- an empty book, and every number one digit

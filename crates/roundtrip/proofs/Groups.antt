@@ -18,8 +18,8 @@ use Rattle.board.specs.Snapshot.{entriesOf, shown}
 use Rattle.tags.specs.Tags.{namedTags, entryW, allTidy, upTo, parts}
 use Rattle.entries.specs.Entries.{entryInW}
 use Rattle.group.specs.Groups.{each, running, firsts}
-use Rattle.pen.specs.Entries.{entryFields}
-use Rattle.writer.specs.Snapshot.{sideFields}
+use Rattle.line.specs.Entries.{entryFields}
+use Rattle.snapshot.specs.Snapshot.{sideFields}
 use Rattle.roundtrip.specs.ReadBack.{newFrom, newOf}
 use Rattle.roundtrip.proofs.Fine.{fine-is}
 use Rattle.roundtrip.proofs.Entries.{bid-back, offer-back, is-tidy, one-part, begins-part}

@@ -15,7 +15,7 @@ use Rattle.book.specs.declared.Book.{Book}
 use Rattle.message.specs.Message.{snapshot}
 use Rattle.lead.specs.Messages.{snapshotOf, orBadFields, typedAs}
 use Rattle.fields.specs.Messages.{messageIn}
-use Rattle.writer.specs.Snapshot.{Letter, snapshotFields, snapshotBytes}
+use Rattle.snapshot.specs.Snapshot.{Letter, snapshotFields, snapshotBytes}
 use Rattle.writer.specs.Writing.{pageOf, writtenOf, outAfter}
 use Rattle.writer.proofs.Promise.{fits, starts}
 use Rattle.roundtrip.specs.ReadBack.{InRange, ReadBack, newOf}

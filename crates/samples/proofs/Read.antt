@@ -12,8 +12,8 @@ use Rattle.frame.specs.Fields.{fieldOf, cut, fieldsOf}
 use Rattle.frame.specs.Bytes.{fieldBytes, bytesOf}
 use Rattle.frame.specs.Frames.{frameOf, bodyOf}
 use Rattle.tags.specs.Tags.{has, stands, tidy, upTo, past, parts, allTidy, lookup}
-use Rattle.entries.specs.Values.{bvmf, instrumentOf, sortOf, byOf, momentIn}
-use Rattle.entries.specs.Entries.{valuesOf, bookEntry, entryInX, shownEntry, entryInW}
+use Rattle.values.specs.Values.{bvmf, instrumentOf, sortOf, byOf, momentIn, valuesOf}
+use Rattle.entries.specs.Entries.{bookEntry, entryInX, shownEntry, entryInW}
 use Rattle.message.specs.Message.{snapshot, refused}
 use Rattle.message.specs.declared.Refusal.the-variants.{BadFields}
 use Rattle.group.specs.Groups.{groupOf, each, running}

@@ -20,8 +20,8 @@ use Rattle.frame.specs.Bytes.{fieldBytes, bytesOf}
 use Rattle.frame.proofs.Inverse.{length-field}
 use Rattle.book.specs.Rules.{Lists}
 use Rattle.book.specs.declared.Entry.{Entry}
-use Rattle.pen.specs.Entries.{byField, entryFields}
-use Rattle.writer.specs.Snapshot.{Letter, sideFields, headFields, snapshotFields, snapshotBytes}
+use Rattle.line.specs.Entries.{byField, entryFields}
+use Rattle.snapshot.specs.Snapshot.{Letter, sideFields, headFields, snapshotFields, snapshotBytes}
 use Rattle.writer.proofs.Pages.{long}
 
 -- ---- values
