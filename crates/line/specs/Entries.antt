@@ -9,7 +9,7 @@ use Rattle.price.specs.Price.{top}
 use Rattle.price.specs.PriceText.{priceText}
 use Rattle.moment.specs.Moments.{moments, dateText, timeText, dayPart, timePart}
 use Rattle.orderid.specs.OrderIds.{idText}
-use Rattle.frame.specs.Fields.{Field, field}
+use Rattle.chain.specs.Fields.{Field, field}
 use Rattle.book.specs.declared.Entry.{Entry}
 
 -- 37 on an order-depth channel, 346 on a price-depth one.

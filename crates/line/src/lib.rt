@@ -3,7 +3,7 @@
 ghost use Prim.Native.Nat.{_+_, _^_, _≤_, _<_};
 ghost use lib.Dec.{eqb};
 ghost use Rattle.text.specs.Text.{Wrote};
-ghost use Rattle.frame.specs.Bytes.{fieldBytes, bytesOf};
+ghost use Rattle.chain.specs.Bytes.{fieldBytes, bytesOf};
 ghost use Rattle.line.specs.Entries.{byField, entryFields, frontFields, Writable};
 use book::Entry;
 

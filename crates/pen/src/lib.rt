@@ -10,8 +10,8 @@ ghost use Rattle.price.specs.PriceText.{priceText};
 ghost use Rattle.calendar.specs.Calendar.{days};
 ghost use Rattle.moment.specs.Moments.{moments, dateText, timeText, momentText};
 ghost use Rattle.orderid.specs.OrderIds.{idText};
-ghost use Rattle.frame.specs.Fields.{field};
-ghost use Rattle.frame.specs.Bytes.{fieldBytes};
+ghost use Rattle.chain.specs.Fields.{field};
+ghost use Rattle.chain.specs.Bytes.{fieldBytes};
 
 const SOH: u8 = 1;
 

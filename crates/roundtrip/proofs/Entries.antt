@@ -14,7 +14,7 @@ use Rattle.price.proofs.Back.{price-back}
 use Rattle.moment.specs.Moments.{dayPart, timePart}
 use Rattle.moment.proofs.Back.{date-back, time-back}
 use Rattle.orderid.proofs.Back.{read-back}
-use Rattle.frame.specs.Fields.{Field}
+use Rattle.chain.specs.Fields.{Field}
 use Rattle.book.specs.declared.Entry.{Entry}
 use Rattle.book.specs.declared.Update.{Update}
 use Rattle.tags.specs.Tags.{namedTags, entryW, has, stands, tidy, upTo, parts, lookup}

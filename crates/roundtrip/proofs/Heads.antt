@@ -10,7 +10,7 @@ use lib.ListN.{length}
 use Rattle.text.specs.Text.{decimal}
 use Rattle.moment.specs.Moments.{momentText}
 use Rattle.moment.proofs.Back.{moment-back}
-use Rattle.frame.specs.Fields.{Field, field}
+use Rattle.chain.specs.Fields.{Field, field}
 use Rattle.book.specs.Rules.{Lists}
 use Rattle.message.specs.Message.{Head, mostNumber}
 use Rattle.tags.specs.Tags.{namedTags, headW, entryW, has, stands, tidy, upTo, past, lookup}

@@ -10,8 +10,8 @@ use lib.ListN.{length, length-append}
 use Rattle.text.specs.Text.{widthOf, decimal}
 use Rattle.text.proofs.Written.{width-in, width-more}
 use Rattle.moment.specs.Moments.{dayPart, timePart}
-use Rattle.frame.specs.Fields.{Field}
-use Rattle.frame.specs.Bytes.{bytesOf, allFair}
+use Rattle.chain.specs.Fields.{Field}
+use Rattle.chain.specs.Bytes.{bytesOf, allFair}
 use Rattle.frame.proofs.Well.{bytes-append, fair-append}
 use Rattle.book.specs.Canonical.{All}
 use Rattle.book.specs.Rules.{Lists}

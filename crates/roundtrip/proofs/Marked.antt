@@ -8,7 +8,7 @@ use Rattle.text.specs.Text.{fixed, widthTo, widthOf, decimal}
 use Rattle.calendar.specs.Calendar.{leap, months, daysIn, daysTo, yearDays, daysBefore, isDate, dayOf, dateNumber}
 use Rattle.calendar.proofs.Dates.{date-back}
 use Rattle.moment.specs.Moments.{span, dateText, clockText, timeText, momentText}
-use Rattle.frame.specs.Bytes.{fieldBytes, bytesOf}
+use Rattle.chain.specs.Bytes.{fieldBytes, bytesOf}
 use Rattle.frame.specs.Frames.{framed}
 use Rattle.frame.specs.Marked.{message}
 use Rattle.book.specs.Rules.{empty}

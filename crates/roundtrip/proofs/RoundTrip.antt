@@ -5,8 +5,8 @@ use mathlib.Core.Option.{some}
 use Prim.Native.Nat.{ℕ}
 use native.Mathlib.Omega.{arith}
 use lib.ListN.{length, take}
-use Rattle.frame.specs.Fields.{field}
-use Rattle.frame.specs.Bytes.{fair, allFair}
+use Rattle.chain.specs.Fields.{field}
+use Rattle.chain.specs.Bytes.{fair, allFair}
 use Rattle.frame.proofs.Messages.{Back, frame-back}
 use Rattle.digits.proofs.Width.{both}
 use Rattle.book.specs.Canonical.{listsIn}

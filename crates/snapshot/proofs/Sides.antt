@@ -6,7 +6,7 @@ use native.Mathlib.Numerals.{add-one}
 use native.Mathlib.Omega.{arith}
 use lib.ListN.{length, drop, getD}
 use lib.Seq.{drop-cons}
-use Rattle.frame.specs.Bytes.{bytesOf}
+use Rattle.chain.specs.Bytes.{bytesOf}
 use Rattle.frame.proofs.Well.{bytes-append}
 use Rattle.book.specs.Canonical.{All}
 use Rattle.book.specs.declared.Entry.{Entry}

@@ -4,8 +4,8 @@ use mathlib.Core.List.{List, [], _∷_, _++_}
 use lib.ListN.{length}
 use Rattle.text.specs.Text.{decimal}
 use Rattle.moment.specs.Moments.{momentText}
-use Rattle.frame.specs.Fields.{Field, field}
-use Rattle.frame.specs.Bytes.{bytesOf}
+use Rattle.chain.specs.Fields.{Field, field}
+use Rattle.chain.specs.Bytes.{bytesOf}
 use Rattle.frame.specs.Frames.{framed}
 use Rattle.book.specs.Rules.{Lists}
 use Rattle.book.specs.declared.Entry.{Entry}

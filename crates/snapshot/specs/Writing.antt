@@ -4,7 +4,7 @@ use mathlib.Core.List.{List, [], _∷_}
 use lib.ListN.{length}
 use Rattle.text.specs.Text.{decimal}
 use Rattle.moment.specs.Moments.{moments, momentText}
-use Rattle.frame.specs.Fields.{Field, field}
+use Rattle.chain.specs.Fields.{Field, field}
 use Rattle.book.specs.Canonical.{All, KeptBook, heldIn}
 use Rattle.book.specs.declared.Book.{Book}
 use Rattle.line.specs.Entries.{Writable}

@@ -4,7 +4,7 @@ ghost use Prim.Native.Nat.{_+_, _^_, _≤_, _<_};
 ghost use lib.ListN.{length, take};
 ghost use Rattle.text.specs.Text.{Wrote};
 ghost use Rattle.moment.specs.Moments.{moments};
-ghost use Rattle.frame.specs.Bytes.{bytesOf};
+ghost use Rattle.chain.specs.Bytes.{bytesOf};
 ghost use Rattle.book.specs.Canonical.{All, listsIn};
 ghost use Rattle.line.specs.Entries.{Writable};
 ghost use Rattle.snapshot.specs.Snapshot.{sideFields, snapshotFields};

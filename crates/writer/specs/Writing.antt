@@ -6,7 +6,7 @@ use lib.Dec.{leb}
 use lib.ListN.{length}
 use lib.Seq.{sets}
 use Rattle.text.specs.Text.{decimal}
-use Rattle.frame.specs.Fields.{Field, field}
+use Rattle.chain.specs.Fields.{Field, field}
 use Rattle.frame.specs.Frames.{begin}
 use Rattle.book.specs.Canonical.{listsIn}
 use Rattle.book.specs.declared.Book.{Book}

@@ -4,7 +4,7 @@ ghost use mathlib.Core.Path.{_≡_};
 ghost use Prim.Native.Nat.{_^_, _≤_, _<_};
 ghost use Rattle.text.specs.Text.{Wrote};
 ghost use Rattle.orderid.specs.OrderIds.{isId};
-ghost use Rattle.frame.specs.Bytes.{bytesOf};
+ghost use Rattle.chain.specs.Bytes.{bytesOf};
 ghost use Rattle.snapshot.specs.Writing.{letter, Ready};
 ghost use Rattle.writer.specs.Writing.{pageOf, writtenOf, outAfter, openingFields};
 use book::Book;

@@ -1,7 +1,7 @@
 -- Entry by entry, each at its place. Assumes nothing.
 use Prim.Native.Nat.{_+_, _-_, _*_, _≤_, _<_}
 use Rattle.book.specs.Sides.{noEntry}
-use Rattle.frame.specs.Bytes.{bytesOf}
+use Rattle.chain.specs.Bytes.{bytesOf}
 use Rattle.line.specs.Entries.{Writable}
 use Rattle.text.proofs.Stores.{left-all, left-more, left-none}
 use Rattle.text.specs.Text.{Left}
