@@ -1,5 +1,5 @@
 // The reader of digits. Every number in a value is read here; its width is a parameter, and one law over the width bounds
-// every field (document 01, "Fields": whole numbers). A field's tag is read by `frame::tag_at`, which finds the '=' behind
+// every field (document 01, "Fields": whole numbers). A field's tag is read by `chain::tag_at`, which finds the '=' behind
 // it in the same loop; its meaning is `ranged` of the bytes before '=', shown by the laws of this crate.
 ghost use mathlib.Core.Path.{_≡_};
 ghost use Rattle.digits.specs.Digits.{digitsOf, wholeOf, rangedOf};
@@ -13,7 +13,8 @@ pub enum Number {
 // As many digits as are sure to fit 64 bits with one more.
 const WIDEST: usize = 18;
 
-fn wide(x: u8) -> u64
+// A byte as a number.
+pub fn wide(x: u8) -> u64
     ensures { λ r. ⌜ r ≡ x ⌝ }
 {
     x as u64

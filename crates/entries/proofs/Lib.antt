@@ -1,3 +1,2 @@
-pub mod Texts
 pub mod Answers
 pub mod Same

@@ -3,8 +3,8 @@ use mathlib.Core.Path.{_≡_}
 use Prim.Native.Nat.{ℕ, _<_}
 use native.Mathlib.Omega.{arith}
 use Rattle.tags.specs.Slots.{slotOf}
-use Rattle.entries.specs.Values.{Values, instrumentOf, byOf, momentIn}
-use Rattle.entries.specs.Entries.{valuesOf, bookEntry, emptyBook, entryInX, shownEntry, entryInW}
+use Rattle.values.specs.Values.{Values, instrumentOf, byOf, momentIn, valuesOf}
+use Rattle.entries.specs.Entries.{bookEntry, emptyBook, entryInX, shownEntry, entryInW}
 
 -- values that agree on the named tags
 module _ (v w : Values) (h : (t : ℕ) → slotOf t < 21 → v t ≡ w t) where

@@ -3,21 +3,10 @@ use Prim.Native.Nat.{ℕ}
 use mathlib.Core.Bool.{cond}
 use mathlib.Core.Option.{Option, none, some}
 use lib.Dec.{leb, eqb}
-use Rattle.book.specs.declared.Entry.{Entry}
 use Rattle.book.specs.declared.Update.{Update}
 use Rattle.book.specs.Sides.{noEntry}
-use Rattle.entries.specs.Values.{_>>=_, Values, instrumentAt, actionAt, sortAt, placeAt, priceAt, sizeAt, byAt, momentAt}
+use Rattle.values.specs.Values.{_>>=_, Values, instrumentAt, actionAt, sortAt, placeAt, valuesOf}
 use Rattle.entries.specs.declared.Said.{Said}
-use Rattle.entries.specs.declared.Valued.{Valued}
-
--- The values of a place: 270, 271, 37 or 346, 272, 273.
-unfoldable pub valuesOf : ℕ → Values → Option Entry
-valuesOf depth v =
-    priceAt v >>= λ price.
-    sizeAt v >>= λ size.
-    byAt depth v >>= λ by.
-    momentAt v >>= λ moment.
-    some (record { price = price; size = size; by = by .by; more = by .more; moment = moment })
 
 -- An entry says one update, or it is passed over.
 abbrev pub says : Update → Option (Option Update)
@@ -55,11 +44,7 @@ shownEntry depth id side v =
 unfoldable pub entryInW : ℕ → ℕ → Values → Option (Option Update)
 entryInW depth id v = sortAt v >>= λ sort. cond (leb sort 1) (shownEntry depth id sort v) passedOver
 
--- The code's answers.
-unfoldable pub valued : Option Entry → Valued
-valued none = Valued.No
-valued (some e) = Valued.Is e
-
+-- The code's answer.
 unfoldable pub said : Option (Option Update) → Said
 said none = Said.Bad
 said (some none) = Said.Passed

@@ -9,12 +9,13 @@ use lib.Dec.{eqb}
 use lib.ListN.{length}
 use Rattle.digits.proofs.Width.{both}
 use Rattle.message.specs.Message.{Message, numbered, snapshot, refused}
-use Rattle.frame.specs.Fields.{Field}
+use Rattle.chain.specs.Fields.{Field}
 use Rattle.tags.specs.Tags.{namedTags, otherTags, headX, headW, entryX, entryW, has, stands, tidy, allTidy, upTo, past, parts, lookup}
 use Rattle.tags.proofs.Unbroken.{stands-past, stands-tidy, stands-parts}
-use Rattle.entries.specs.Values.{_>>=_, need, seqAt, heardAt, countAt}
+use Rattle.values.specs.Values.{_>>=_, need, seqAt, heardAt, countAt}
 use Rattle.entries.specs.Entries.{entryInX, entryInW}
-use Rattle.group.specs.Groups.{groupOf, each, running, firsts}
+use Rattle.position.specs.Positions.{firsts}
+use Rattle.group.specs.Groups.{groupOf, each, running}
 use Rattle.lead.specs.Messages.{otherOf, changesOf, headOf, snapshotOf, typedAs}
 
 -- a message that is not refused

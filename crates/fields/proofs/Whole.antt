@@ -12,14 +12,14 @@ use Rattle.message.specs.Message.{Message, numbered, snapshot, refused, told}
 use Rattle.message.specs.declared.Reading.{Reading}
 use Rattle.message.specs.declared.Verdict.{Verdict}
 use Rattle.message.specs.declared.Verdict.the-variants.{Numbered, Snapshot, Refused}
-use Rattle.frame.specs.Fields.{Field}
+use Rattle.chain.specs.Fields.{Field}
 use Rattle.frame.specs.Frames.{frameOf}
 use Rattle.frame.specs.ByPlace.{outlineOf}
-use Rattle.frame.specs.Places.{part, isSome, left}
+use Rattle.chain.specs.Places.{part, isSome, left}
 use Rattle.frame.specs.declared.Framed.{Framed}
 use Rattle.frame.proofs.Framed as framed
 use Rattle.frame.proofs.Messages.{framing, outline, outlined}
-use Rattle.frame.proofs.Walk.{left-whole}
+use Rattle.chain.proofs.Walk.{left-whole}
 use Rattle.tags.proofs.Unbroken.{unbroken}
 use Rattle.lead.specs.Messages.{orBadFields, typedAs}
 use Rattle.fields.specs.Messages.{messageIn}

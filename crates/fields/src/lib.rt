@@ -6,7 +6,7 @@ ghost use Prim.Native.Nat.{_≤_};
 ghost use lib.ListN.{length};
 ghost use Rattle.message.specs.Message.{refused, told};
 ghost use Rattle.frame.specs.Frames.{frameOf};
-ghost use Rattle.frame.specs.Places.{left};
+ghost use Rattle.chain.specs.Places.{left};
 ghost use Rattle.group.specs.Reads.{runSize, Reads};
 ghost use Rattle.lead.specs.Messages.{orBadFields, typedAs};
 ghost use Rattle.fields.specs.Messages.{refusalOf, messageIn};

@@ -14,16 +14,16 @@ use Rattle.digits.specs.Digits.{digitsOf, wholeOf}
 use Rattle.digits.specs.declared.Number.{Number}
 use Rattle.digits.proofs.Width.{both, below}
 use Rattle.text.specs.Text.{fixed, decimal}
-use Rattle.frame.specs.Fields.{Field, field, fieldsOf}
-use Rattle.frame.specs.Bytes.{fieldBytes, bytesOf, fair, allFair}
+use Rattle.chain.specs.Fields.{Field, field, fieldsOf}
+use Rattle.chain.specs.Bytes.{fieldBytes, bytesOf, fair, allFair}
 use Rattle.frame.specs.Frames.{equal, total, begin, reads, begins, counts, sumOf, typed, summed, lastOf, frontOf, chained, frameOf, ended}
-use Rattle.frame.specs.Places.{part, isSome}
+use Rattle.chain.specs.Places.{part, isSome}
 use Rattle.frame.specs.ByPlace.{preamble, trailerOf, partsOf, judged, outlineOf, frameIn}
 use Rattle.frame.specs.declared.Shape.{Shape}
 use Rattle.frame.specs.declared.Framed.{Framed}
-use Rattle.frame.proofs.Shortest.{read-digits, fixed-back, decimal-back}
-use Rattle.frame.proofs.Walk.{found}
-use Rattle.frame.proofs.Inverse.{Chain, fields-only}
+use Rattle.chain.proofs.Shortest.{read-digits, fixed-back, decimal-back}
+use Rattle.chain.proofs.Walk.{found}
+use Rattle.chain.proofs.Inverse.{Chain, fields-only}
 use Rattle.frame.proofs.Opened.{equal-is, opened, opened-inside, Shaped, shaped}
 use Rattle.frame.proofs.Well.{Well, whole-is, ten-bytes, length-ten, chain-well, parts-well, frame-well}
 

@@ -1,12 +1,6 @@
 pub mod Scan
-pub mod Ahead
-pub mod Shortest
-pub mod Reading
-pub mod Walk
-pub mod Inverse
 pub mod Opened
 pub mod Well
 pub mod Framing
 pub mod Messages
 pub mod Marked
-pub mod Tagging

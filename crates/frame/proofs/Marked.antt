@@ -5,8 +5,8 @@ use Prim.Native.Nat.{ℕ, _+_, _%_}
 use lib.ListN.{length}
 use Rattle.digits.specs.Digits.{digitsOf, wholeOf, rangedOf}
 use Rattle.text.specs.Text.{fixed, widthTo, widthOf, decimal}
-use Rattle.frame.specs.Fields.{fieldOf, cut, fieldsOf}
-use Rattle.frame.specs.Bytes.{fieldBytes, bytesOf}
+use Rattle.chain.specs.Fields.{fieldOf, cut, fieldsOf}
+use Rattle.chain.specs.Bytes.{fieldBytes, bytesOf}
 use Rattle.frame.specs.Frames.{total, frameOf}
 use Rattle.frame.specs.Marked.{before-ten, message}
 use Rattle.frame.specs.declared.Framed.{Framed}

@@ -11,10 +11,10 @@ use lib.Dec.{eqb}
 use lib.ListN.{length, take}
 use Rattle.digits.proofs.Width.{both}
 use Rattle.text.specs.Text.{decimal}
-use Rattle.frame.specs.Fields.{Field, field, fieldsOf}
-use Rattle.frame.specs.Bytes.{bytesOf, fair, allFair}
+use Rattle.chain.specs.Fields.{Field, field, fieldsOf}
+use Rattle.chain.specs.Bytes.{bytesOf, fair, allFair}
 use Rattle.frame.specs.Frames.{total, isType, typed, frameOf, bodyOf, headed, ended, framed}
-use Rattle.frame.specs.Places.{part, isSome}
+use Rattle.chain.specs.Places.{part, isSome}
 use Rattle.frame.specs.ByPlace.{partsOf, judged, outlineIn, outlineOf, frameIn}
 use Rattle.frame.specs.Laws.{Outline, ChainedIsFrame, FrameIsOutlined}
 use Rattle.frame.specs.declared.Shape.{Shape}

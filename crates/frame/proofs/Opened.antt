@@ -11,13 +11,13 @@ use Rattle.digits.specs.Digits.{wholeOf}
 use Rattle.digits.specs.declared.Number.{Number}
 use Rattle.digits.proofs.Width.{both, whole-below}
 use Rattle.frame.specs.Frames.{equal, isType, typed}
-use Rattle.frame.specs.Places.{part, fieldAt}
+use Rattle.chain.specs.Places.{part, fieldAt}
 use Rattle.frame.specs.ByPlace.{tagged, preamble, thirdOf, countOf, secondOf, headOf, trailerOf, sumRead, partsIn, partsOf}
-use Rattle.frame.specs.declared.Step.{Step}
+use Rattle.chain.specs.declared.Step.{Step}
 use Rattle.frame.specs.declared.Opening.{Opening}
 use Rattle.frame.specs.declared.Shape.{Shape}
 use Rattle.frame.specs.declared.Framed.{Framed}
-use Rattle.frame.proofs.Walk.{found}
+use Rattle.chain.proofs.Walk.{found}
 
 -- ---- the same bytes
 pub equal-is : (a b : List ℕ) → equal a b ≡ true → a ≡ b

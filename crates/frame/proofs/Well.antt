@@ -13,15 +13,15 @@ use Rattle.digits.specs.declared.Number.{Number}
 use Rattle.digits.proofs.Width.{both}
 use Rattle.text.specs.Text.{fixed, widthTo, widthOf, decimal, free}
 use Rattle.text.proofs.Written.{whole-back, read-fixed, length-fixed, digits-fixed, digits-decimal, length-decimal, width-pos}
-use Rattle.frame.specs.Fields.{Field, field, fieldsOf}
-use Rattle.frame.specs.Bytes.{fieldBytes, bytesOf, fair, allFair}
+use Rattle.chain.specs.Fields.{Field, field, fieldsOf}
+use Rattle.chain.specs.Bytes.{fieldBytes, bytesOf, fair, allFair}
 use Rattle.frame.specs.Frames.{begin, lastOf, frontOf, frameOf, bodyOf, headed, ended}
-use Rattle.frame.specs.Places.{part}
+use Rattle.chain.specs.Places.{part}
 use Rattle.frame.specs.ByPlace.{preamble, headOf, trailerOf, partsOf, judged}
 use Rattle.frame.specs.declared.Opening.{Opening}
 use Rattle.frame.specs.declared.Shape.{Shape}
-use Rattle.frame.proofs.Ahead.{digits-free}
-use Rattle.frame.proofs.Inverse.{is-fair, fields-back, Stands, stands, length-field}
+use Rattle.chain.proofs.Ahead.{digits-free}
+use Rattle.chain.proofs.Inverse.{is-fair, fields-back, Stands, stands, length-field}
 
 -- the type's text is c, the fields after it are body, and the trailer says v
 pub record Well (s c : List ℕ) (body : List Field) (v : ℕ) : Type 0 where

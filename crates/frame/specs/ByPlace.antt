@@ -1,27 +1,20 @@
 -- The frame place by place, as the code reads it: 11 first, then the sum, then the type. `by-places` in proofs/Framing.antt
 -- shows that they come to `frameOf`; of these definitions a public contract cites only `outlineOf`, and Laws.antt says how it
 -- comes to `frameOf`. Assumes nothing.
-use Prim.Native.Nat.{ℕ, _+_, _-_, _%_, _<_}
-use mathlib.Core.Path.{_≡_}
+use Prim.Native.Nat.{ℕ, _+_, _-_, _%_}
 use mathlib.Core.List.{List, [], _∷_}
 use mathlib.Core.Bool.{cond, _&&_}
 use lib.Dec.{leb, eqb}
 use lib.ListN.{length, getD, take}
-use Rattle.digits.specs.Digits.{digitsOf, wholeOf, rangedOf}
+use Rattle.digits.specs.Digits.{digitsOf, wholeOf}
 use Rattle.digits.specs.declared.Number.{Number}
-use Rattle.frame.specs.Fields.{fieldsOf}
+use Rattle.chain.specs.Fields.{fieldsOf}
 use Rattle.frame.specs.Frames.{equal, total, typed}
-use Rattle.frame.specs.Places.{part, firstOf, fieldAt, isSome}
-use Rattle.frame.specs.declared.Step.{Step}
-use Rattle.frame.specs.declared.Tag.{Tag}
+use Rattle.chain.specs.Places.{part, fieldAt, isSome}
+use Rattle.chain.specs.declared.Step.{Step}
 use Rattle.frame.specs.declared.Opening.{Opening}
 use Rattle.frame.specs.declared.Shape.{Shape}
 use Rattle.frame.specs.declared.Framed.{Framed}
-
--- the tag of the field that starts at a place and where its '=' stands, or that no field starts there
-abbrev pub Tells : List ℕ → ℕ → Tag → Type 0
-Tells s at Tag.No = fieldAt s at ≡ Step.No
-Tells s at (Tag.Is t mid) = (mid ≡ firstOf 61 s at) × ((mid < length s) × (rangedOf 5 1 99999 (part at mid s) ≡ Number.Is t))
 
 -- a field of one tag
 abbrev pub tagged : ℕ → Step → Step

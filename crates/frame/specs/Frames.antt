@@ -9,8 +9,8 @@ use Rattle.digits.specs.Digits.{digitsOf, wholeOf}
 use Rattle.digits.specs.declared.Number.{Number}
 use Rattle.digits.specs.declared.Number.the-variants.{Is, No}
 use Rattle.text.specs.Text.{fixed, decimal}
-use Rattle.frame.specs.Fields.{Field, field, fieldsOf}
-use Rattle.frame.specs.Bytes.{bytesOf}
+use Rattle.chain.specs.Fields.{Field, field, fieldsOf}
+use Rattle.chain.specs.Bytes.{bytesOf}
 use Rattle.frame.specs.declared.Framed.{Framed}
 
 -- the same bytes

@@ -4,9 +4,9 @@ use mathlib.Core.Path.{_≡_}
 use mathlib.Core.Bool.{true}
 use mathlib.Core.List.{List}
 use lib.ListN.{length}
-use Rattle.frame.specs.Fields.{fieldsOf}
+use Rattle.chain.specs.Fields.{fieldsOf}
 use Rattle.frame.specs.Frames.{isType, frameOf}
-use Rattle.frame.specs.Places.{part, isSome}
+use Rattle.chain.specs.Places.{part, isSome}
 use Rattle.frame.specs.ByPlace.{outlineOf}
 use Rattle.frame.specs.declared.Framed.{Framed}
 

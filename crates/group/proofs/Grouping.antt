@@ -10,15 +10,16 @@ use native.Mathlib.Numerals.{add-one}
 use lib.Dec.{eqb, eqb·suc-suc, eqb·suc-zero}
 use lib.ListN.{length}
 use Rattle.book.specs.declared.Update.{Update}
-use Rattle.frame.specs.Fields.{Field}
+use Rattle.chain.specs.Fields.{Field}
 use Rattle.tags.specs.Tags.{namedTags, has, tidy, allTidy, upTo, parts, lookup}
 use Rattle.tags.specs.Slots.{between}
 use Rattle.tags.proofs.Tidiness.{fits, tidy-stray}
-use Rattle.entries.specs.Values.{_>>=_, need}
-use Rattle.group.specs.Groups.{each, running, nextOn, nextAfter, firsts}
-use Rattle.group.specs.Listed.{entryIn, atNext, entryNext, ordered, grouped}
-use Rattle.group.specs.declared.Next.{Next}
-use Rattle.group.specs.declared.Top.{Top}
+use Rattle.values.specs.Values.{_>>=_, need}
+use Rattle.position.specs.Positions.{nextOn, nextAfter, firsts, entryIn, atNext, entryNext}
+use Rattle.position.specs.declared.Next.{Next}
+use Rattle.position.specs.declared.Top.{Top}
+use Rattle.group.specs.Groups.{each, running}
+use Rattle.group.specs.Listed.{ordered, grouped}
 
 module _ (depth : ℕ) (t : Top) where
   abbrev ours : List ℕ

@@ -1,4 +1,3 @@
-pub mod Positions
 pub mod Grouping
 pub mod Reading
 pub mod Listing

@@ -19,25 +19,24 @@ use Rattle.cells.specs.Cells.{updateWords, updateAt}
 use Rattle.cells.specs.Runs.{updatesIn}
 use Rattle.cells.proofs.Tables.{length-tab}
 use Rattle.cells.proofs.Runs.{no-updates, one-more}
-use Rattle.frame.specs.Fields.{Field, field}
-use Rattle.frame.specs.Places.{part, fieldAt, broken, left}
-use Rattle.frame.specs.declared.Step.{Step}
-use Rattle.frame.proofs.Walk.{walked, left-on, left-no, found}
+use Rattle.chain.specs.Fields.{Field, field}
+use Rattle.chain.specs.Places.{part, fieldAt, broken, left}
+use Rattle.chain.specs.declared.Step.{Step}
+use Rattle.chain.proofs.Walk.{walked, left-on, left-no, found}
 use Rattle.tags.specs.Tags.{namedTags, has, stands, tidy, upTo, lookup}
 use Rattle.tags.specs.Slots.{slotOf, below, between, noMarks, marked, strays, Holds}
 use Rattle.tags.specs.declared.Marks.{Marks}
 use Rattle.tags.proofs.Slots.{has-below}
 use Rattle.tags.proofs.Marking.{none-held, held-more}
 use Rattle.tags.proofs.Tidiness.{fits, fits-test, tidy-one, tidy-more}
-use Rattle.tags.proofs.Walking.{unseen, broken-strays}
+use Rattle.place.proofs.Walking.{unseen, broken-strays}
 use Rattle.entries.proofs.Same.{x-same, w-same}
-use Rattle.group.specs.Groups.{nextAfter, firsts}
-use Rattle.group.specs.Listed.{entryIn, entryNext, Fair, grouped, answered}
+use Rattle.position.specs.Positions.{nextAfter, firsts, entryIn, entryNext, Fair}
+use Rattle.position.specs.declared.Next.{Next}
+use Rattle.position.specs.declared.Top.{Top}
+use Rattle.group.specs.Listed.{grouped, answered}
 use Rattle.group.specs.Reads.{runSize, Spared, Reads}
-use Rattle.group.specs.declared.Next.{Next}
-use Rattle.group.specs.declared.Top.{Top}
-use Rattle.group.proofs.Positions.{none-answered}
-use Rattle.group.proofs.Reading.{refused-reads, reads-as}
+use Rattle.group.proofs.Reading.{refused-reads, reads-as, none-answered}
 use Rattle.group.proofs.Grouping.{outside, inside, group-start, at-end, too-few, passed-over, not-there, too-many, begins, goes-on, breaks, starts-none, starts-first, entry-bad, entry-passed, entry-said}
 
 -- all the named tags

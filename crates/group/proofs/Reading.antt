@@ -1,6 +1,7 @@
 -- What a reader leaves: of the run what no entry may fill, by a refusal no entry; and what is read may be said in other words. Assumes nothing.
 use mathlib.Core.Path.{_≡_, refl, ap, _∙_}
 use mathlib.Core.List.{List}
+use mathlib.Core.Option.{none}
 use Prim.Native.Nat.{ℕ, _*_, _<_}
 use native.Mathlib.Omega.{arith}
 use lib.Seq.{sets, length-sets}
@@ -8,9 +9,12 @@ use Rattle.book.specs.declared.Update.{Update}
 use Rattle.message.specs.Message.{refused, told, Told}
 use Rattle.message.specs.declared.Reading.{Reading}
 use Rattle.message.specs.declared.Refusal.{Refusal}
+use Rattle.message.specs.declared.Refusal.the-variants.{BadFields}
 use Rattle.cells.specs.Cells.{updateWords}
 use Rattle.cells.proofs.Stores.{behind-sets}
 use Rattle.cells.proofs.Runs.{no-updates}
+use Rattle.position.specs.declared.Top.{Top}
+use Rattle.group.specs.Listed.{answered}
 use Rattle.group.specs.Reads.{Spared, Reads}
 
 -- ---- the run
@@ -32,3 +36,8 @@ refused-reads why xs ys r e l = rw e (record { reading = refl; entries = no-upda
 pub reads-as : {t u : Told} {r : Reading} {xs ys : List ℕ} → Reads t r xs ys → t ≡ u → Reads u r xs ys
 reads-as h q =
     record { reading = h .reading ∙ ap (λ (t : Told). t .reading) q; entries = h .entries ∙ ap (λ (t : Told). t .entries) q; run = h .run }
+
+-- a refusal is an answer without entries
+pub none-answered : (t : Top) → told (refused BadFields) ≡ answered t none
+unfolding answered
+none-answered t = refl

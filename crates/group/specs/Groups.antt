@@ -1,15 +1,16 @@
 -- The group of an X or a W (document 01, "Fields"): its entries, and in W their positions. Assumes nothing.
-use Prim.Native.Nat.{ℕ, _+_}
+use Prim.Native.Nat.{ℕ}
 use mathlib.Core.List.{List, [], _∷_}
-use mathlib.Core.Bool.{Bool, true, cond, _&&_}
+use mathlib.Core.Bool.{Bool, true, _&&_}
 use mathlib.Core.Option.{Option, none, some}
 use lib.Dec.{eqb}
 use lib.ListN.{length}
 use Rattle.book.specs.declared.Update.{Update}
-use Rattle.frame.specs.Fields.{Field}
+use Rattle.chain.specs.Fields.{Field}
 use Rattle.tags.specs.Tags.{namedTags, tidy, allTidy, upTo, past, parts, lookup}
-use Rattle.entries.specs.Values.{_>>=_, need, Values, countAt}
-use Rattle.group.specs.declared.Next.{Next}
+use Rattle.values.specs.Values.{_>>=_, need, Values, countAt}
+use Rattle.position.specs.Positions.{nextOn, nextAfter}
+use Rattle.position.specs.declared.Next.{Next}
 
 -- The group of X and W follows 268 and has exactly as many entries as 268 says, each beginning with the first tag; before
 -- the first entry no tag named stands.
@@ -29,18 +30,7 @@ unfoldable pub each : (Values → Option (Option Update)) → List (List Field) 
 each f [] = some []
 each f (e ∷ es) = f (lookup e) >>= λ u. each f es >>= λ us. some (onto u us)
 
--- In W the positions on each side run 1, 2, 3 in the order written: the next position of a side (0 bids), and the next
--- ones after an entry of it.
-abbrev pub nextOn : Next → ℕ → ℕ
-nextOn next side = cond (eqb side 0) (next .bid) (next .offer)
-
-abbrev pub nextAfter : Next → ℕ → Next
-nextAfter next side =
-    cond (eqb side 0) (record { bid = next .bid + 1; offer = next .offer }) (record { bid = next .bid; offer = next .offer + 1 })
-
+-- In W the positions on each side run 1, 2, 3 in the order written.
 unfoldable pub running : Next → List Update → Bool
 running next [] = true
 running next (u ∷ us) = eqb (u .place) (nextOn next (u .what)) && running (nextAfter next (u .what)) us
-
-abbrev pub firsts : Next
-firsts = record { bid = 1; offer = 1 }

@@ -2,98 +2,18 @@
 // Each entry is a place: what it holds is marked, and what it needs is read when it ends. What it says is written into a
 // lent run.
 ghost use mathlib.Core.Path.{_≡_};
-ghost use Prim.Native.Nat.{_≤_, _<_};
+ghost use Prim.Native.Nat.{_≤_};
 ghost use lib.ListN.{length};
-ghost use Rattle.frame.specs.Places.{left};
-ghost use Rattle.tags.specs.Slots.{marked};
-ghost use Rattle.entries.specs.Entries.{said};
-ghost use Rattle.group.specs.Groups.{nextOn, nextAfter};
-ghost use Rattle.group.specs.Listed.{entryNext, Fair, grouped, answered};
+ghost use Rattle.chain.specs.Places.{left};
+ghost use Rattle.position.specs.Positions.{Fair};
+ghost use Rattle.group.specs.Listed.{grouped, answered};
 ghost use Rattle.group.specs.Reads.{runSize, Reads};
+use chain::Step;
 use entries::Said;
-use frame::Step;
 use message::Reading;
 use message::Refusal;
-use message::Verdict;
-use tags::Marks;
-
-// The first tag of an entry in X and in W.
-pub const FIRST_X: u64 = 279;
-
-pub const FIRST_W: u64 = 269;
-
-// The slots that may stand in an entry of X and of W, up to a last one.
-pub const ENTRY_X: usize = tags::INSTRUMENT;
-
-pub const ENTRY_W: usize = tags::SORT;
-
-const ENTRY_END: usize = tags::COUNT;
-
-// How a group is read and what stands before it: the first tag of an entry and the first slot that may stand in one,
-// and the reading's numbers.
-pub struct Top {
-    pub verdict: Verdict,
-    pub first: u64,
-    pub low: usize,
-    pub number: u64,
-    pub heard: u64,
-    pub id: u64,
-    pub last: u64,
-    pub loops: u64,
-}
-
-// The next position of each side in a W.
-pub struct Next {
-    pub bid: usize,
-    pub offer: usize,
-}
-
-// The next position of a side.
-fn next_on(next: Next, side: u64) -> usize
-    ensures { λ r. ⌜ r ≡ nextOn next side ⌝ }
-{
-    if side == 0 {
-        return next.bid;
-    }
-    next.offer
-}
-
-// The next positions after an entry of a side.
-fn next_after(next: Next, side: u64) -> Next
-    requires { ⌜ (next .bid < 65536) × (next .offer < 65536) ⌝ }
-    ensures { λ r. ⌜ r ≡ nextAfter next side ⌝ }
-{
-    if side == 0 {
-        return Next {
-            bid: next.bid + 1,
-            offer: next.offer,
-        };
-    }
-    Next {
-        bid: next.bid,
-        offer: next.offer + 1,
-    }
-}
-
-// What an entry says; in a W it must stand at the next position of its side.
-fn entry(s: &[u8], depth: u64, t: Top, next: Next, m: Marks) -> Said
-    ensures { λ r. ⌜ r ≡ said (entryNext depth t next (marked (now (s .entry)) m)) ⌝ }
-{
-    if t.first == FIRST_X {
-        return entries::in_x(s, depth, m);
-    }
-    let told = entries::in_w(s, depth, t.id, m);
-    match told {
-        Said::Bad => Said::Bad,
-        Said::Passed => Said::Passed,
-        Said::Is(u) => {
-            if u.place != next_on(next, u.what) {
-                return Said::Bad;
-            }
-            Said::Is(u)
-        }
-    }
-}
+use position::Next;
+use position::Top;
 
 // The entries of a group from `start` on, which 268 counts, into the run.
 pub fn listed(s: &[u8], start: usize, count: u64, depth: u64, t: Top, run: &mut [u64]) -> Reading
@@ -113,7 +33,7 @@ pub fn listed(s: &[u8], start: usize, count: u64, depth: u64, t: Top, run: &mut 
             good = more == 0;
             break 'entries;
         }
-        let Step::Is { tag, from, to } = frame::field(s, at) else {
+        let Step::Is { tag, from, to } = chain::field(s, at) else {
             break 'entries;
         };
         at = to + 1;
@@ -136,7 +56,7 @@ pub fn listed(s: &[u8], start: usize, count: u64, depth: u64, t: Top, run: &mut 
                 tag: g,
                 from: f,
                 to: e,
-            } = frame::field(s, at)
+            } = chain::field(s, at)
             else {
                 break 'entries;
             };
@@ -145,21 +65,21 @@ pub fn listed(s: &[u8], start: usize, count: u64, depth: u64, t: Top, run: &mut 
             }
             let j = tags::slot(g);
             let seen = m.to[j];
-            if tags::stray(j, tags::NAMED, low, ENTRY_END, seen) {
+            if tags::stray(j, tags::NAMED, low, position::ENTRY_END, seen) {
                 break 'entries;
             }
             m.from[j] = f;
             m.to[j] = e;
             at = e + 1;
         }
-        let said = entry(s, depth, t, next, m);
+        let said = position::entry(s, depth, t, next, m);
         match said {
             Said::Bad => break 'entries,
             Said::Passed => continue 'entries,
             Said::Is(u) => {
                 cells::save_update(run, n * cells::UPDATE, u);
                 n += 1;
-                next = next_after(next, u.what);
+                next = position::next_after(next, u.what);
             }
         }
     }

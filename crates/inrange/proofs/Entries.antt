@@ -25,8 +25,8 @@ use Rattle.book.specs.declared.Entry.{Entry}
 use Rattle.book.specs.declared.Update.{Update}
 use Rattle.book.specs.Sides.{noEntry}
 use Rattle.board.specs.Ranges.{within, mostId, mostSize, mostOrders, idFine, priceFine, sizeFine, momentFine, ordersFine, byFine, entryFine, noneFine, updateFine, shownFine}
-use Rattle.entries.specs.Values.{Values, number, wholeAt, actionAt, placeAt, sizeAt, heardAt, identified, bvmf, instrumentOf, instrumentAt, sortOf, sortAt, price, priceAt, By, orders, byOf, by, byAt, momentIn, momentAt}
-use Rattle.entries.specs.Entries.{valuesOf, bookEntry, emptyBook, entryInX, shownEntry, entryInW}
+use Rattle.values.specs.Values.{Values, number, wholeAt, actionAt, placeAt, sizeAt, heardAt, identified, bvmf, instrumentOf, instrumentAt, sortOf, sortAt, price, priceAt, By, orders, byOf, by, byAt, momentIn, momentAt, valuesOf}
+use Rattle.entries.specs.Entries.{bookEntry, emptyBook, entryInX, shownEntry, entryInW}
 use Rattle.frame.specs.Frames.{equal}
 use Rattle.inrange.proofs.Okay.{okay, bind}
 

@@ -2,7 +2,7 @@
 use mathlib.Core.Path.{_≡_, refl}
 use mathlib.Core.Bool.{Bool, true, false, _&&_}
 use mathlib.Core.Option.{Option, none, some}
-use Rattle.entries.specs.Values.{_>>=_, need}
+use Rattle.values.specs.Values.{_>>=_, need}
 
 abbrev pub okay : {A : Type 0} → (A → Bool) → Option A → Bool
 okay p none = true

@@ -12,13 +12,14 @@ use Rattle.digits.proofs.Width.{both}
 use Rattle.book.specs.declared.Update.{Update}
 use Rattle.message.specs.Message.{Message, snapshot}
 use Rattle.board.specs.Ranges.{all, within, mostNumber, idFine, momentFine, headFine, shownFine, messageFine}
-use Rattle.frame.specs.Fields.{Field}
+use Rattle.chain.specs.Fields.{Field}
 use Rattle.frame.specs.Frames.{frameOf, bodyOf}
 use Rattle.frame.specs.declared.Framed.{Framed}
 use Rattle.tags.specs.Tags.{namedTags, otherTags, headX, headW, entryX, entryW, tidy, allTidy, upTo, past, parts, lookup}
-use Rattle.entries.specs.Values.{Values, seqAt, heardAt, instrumentAt, lastAt, loopsAt, countAt}
+use Rattle.values.specs.Values.{Values, seqAt, heardAt, instrumentAt, lastAt, loopsAt, countAt}
 use Rattle.entries.specs.Entries.{entryInX, entryInW}
-use Rattle.group.specs.Groups.{groupOf, onto, each, running, firsts}
+use Rattle.position.specs.Positions.{firsts}
+use Rattle.group.specs.Groups.{groupOf, onto, each, running}
 use Rattle.lead.specs.Messages.{otherOf, changesOf, headOf, snapshotOf, orBadFields, typedAs}
 use Rattle.fields.specs.Messages.{framedAs, messageIn}
 use Rattle.inrange.specs.InRange.{ReadInRange}

@@ -15,21 +15,22 @@ use Rattle.book.specs.declared.Update.{Update}
 use Rattle.message.specs.Message.{Head, Message, numbered, snapshot, refused, told}
 use Rattle.message.specs.declared.Refusal.the-variants.{BadFields}
 use Rattle.message.specs.declared.Verdict.the-variants.{Numbered, Snapshot}
-use Rattle.frame.specs.Fields.{Field}
-use Rattle.frame.specs.Places.{part, fieldAt, left}
-use Rattle.frame.specs.declared.Step.{Step}
-use Rattle.frame.proofs.Walk.{left-on, left-no, walked, allTagged}
+use Rattle.chain.specs.Fields.{Field}
+use Rattle.chain.specs.Places.{part, fieldAt, left}
+use Rattle.chain.specs.declared.Step.{Step}
+use Rattle.chain.proofs.Walk.{left-on, left-no, walked, allTagged}
 use Rattle.tags.specs.Tags.{namedTags, otherTags, headX, headW, entryX, entryW, has, tidy, allTidy, upTo, past, onward, parts, lookup}
 use Rattle.tags.specs.Slots.{slotOf, below, between, marked, Holds}
 use Rattle.tags.specs.declared.Marks.{Marks}
-use Rattle.entries.specs.Values.{_>>=_, need, Values, number, seqAt, heardAt, instrumentAt, lastAt, loopsAt}
+use Rattle.values.specs.Values.{_>>=_, need, Values, number, seqAt, heardAt, instrumentAt, lastAt, loopsAt}
 use Rattle.entries.specs.Entries.{entryInX, entryInW}
 use Rattle.entries.proofs.Same.{instrument-same}
-use Rattle.group.specs.Groups.{groupOf, each, running, firsts}
+use Rattle.position.specs.Positions.{firsts, entryIn, Fair}
+use Rattle.group.specs.Groups.{groupOf, each, running}
 use Rattle.lead.specs.Messages.{otherOf, changesOf, headOf, snapshotOf, orBadFields, typedAs}
-use Rattle.group.specs.Listed.{entryIn, ordered, grouped, Fair, answered}
+use Rattle.group.specs.Listed.{ordered, grouped, answered}
 use Rattle.lead.specs.Leads.{bareOf, topX, topW, counted}
-use Rattle.group.specs.declared.Top.{Top}
+use Rattle.position.specs.declared.Top.{Top}
 
 -- ---- from 268 on
 counted-by : (depth : ℕ) (t : Top) (n : Number) (gs : List Field)

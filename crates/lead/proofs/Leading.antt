@@ -9,17 +9,17 @@ use Rattle.message.specs.Message.{refused, told, Told}
 use Rattle.message.specs.declared.Refusal.{Refusal}
 use Rattle.message.specs.declared.Verdict.{Verdict}
 use Rattle.message.specs.declared.Verdict.the-variants.{Refused}
-use Rattle.frame.specs.Places.{left}
-use Rattle.frame.proofs.Walk.{walked}
+use Rattle.chain.specs.Places.{left}
+use Rattle.chain.proofs.Walk.{walked}
 use Rattle.tags.specs.Tags.{has}
 use Rattle.tags.specs.Slots.{between}
-use Rattle.group.specs.Groups.{firsts}
-use Rattle.group.specs.Listed.{Fair, grouped, answered}
+use Rattle.position.specs.Positions.{firsts, Fair}
+use Rattle.group.specs.Listed.{grouped, answered}
 use Rattle.lead.specs.Leads.{bareOf, topped, Leads}
 use Rattle.lead.specs.LeadOf.{aloneLead}
 use Rattle.lead.specs.declared.Lead.{Lead}
 use Rattle.lead.specs.declared.Topped.{Topped}
-use Rattle.group.specs.declared.Top.{Top}
+use Rattle.position.specs.declared.Top.{Top}
 use Rattle.group.proofs.Grouping.{group-start, at-end}
 
 abbrev topOf : Verdict → ℕ → ℕ → Top

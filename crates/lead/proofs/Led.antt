@@ -9,13 +9,13 @@ use lib.ListN.{length}
 use Rattle.digits.specs.Digits.{rangedOf}
 use Rattle.digits.specs.declared.Number.{Number}
 use Rattle.message.specs.declared.Verdict.the-variants.{Numbered}
-use Rattle.frame.specs.Places.{part, fieldAt, left}
-use Rattle.frame.specs.declared.Step.{Step}
+use Rattle.chain.specs.Places.{part, fieldAt, left}
+use Rattle.chain.specs.declared.Step.{Step}
 use Rattle.tags.specs.Slots.{noMarks, marked}
-use Rattle.tags.specs.Walks.{walkOn}
-use Rattle.tags.specs.declared.Place.{Place}
-use Rattle.entries.specs.Values.{Values}
-use Rattle.group.specs.declared.Top.{Top}
+use Rattle.place.specs.Walks.{walkOn}
+use Rattle.place.specs.declared.Place.{Place}
+use Rattle.values.specs.Values.{Values}
+use Rattle.position.specs.declared.Top.{Top}
 use Rattle.lead.specs.Leads.{topX}
 use Rattle.lead.specs.LeadOf.{aloneLead, breachLead, countedLead, toppedLead, walkedLead, numberedLead, restLead, aloneBy, changesLead, snapshotLead, otherLead, leadOf}
 

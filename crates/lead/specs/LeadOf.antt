@@ -10,13 +10,13 @@ use Rattle.digits.specs.declared.Number.{Number}
 use Rattle.message.specs.declared.Refusal.the-variants.{BadFields}
 use Rattle.message.specs.declared.Verdict.{Verdict}
 use Rattle.message.specs.declared.Verdict.the-variants.{Numbered, Refused}
-use Rattle.frame.specs.Places.{part, fieldAt, left}
-use Rattle.frame.specs.declared.Step.{Step}
+use Rattle.chain.specs.Places.{part, fieldAt, left}
+use Rattle.chain.specs.declared.Step.{Step}
 use Rattle.tags.specs.Slots.{noMarks, marked}
-use Rattle.tags.specs.Walks.{walkOn}
-use Rattle.tags.specs.declared.Place.{Place}
-use Rattle.entries.specs.Values.{Values}
-use Rattle.group.specs.declared.Top.{Top}
+use Rattle.place.specs.Walks.{walkOn}
+use Rattle.place.specs.declared.Place.{Place}
+use Rattle.values.specs.Values.{Values}
+use Rattle.position.specs.declared.Top.{Top}
 use Rattle.lead.specs.Leads.{topX, topW}
 use Rattle.lead.specs.declared.Lead.{Lead}
 

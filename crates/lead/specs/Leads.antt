@@ -8,11 +8,12 @@ use Rattle.message.specs.Message.{Told}
 use Rattle.message.specs.declared.Verdict.{Verdict}
 use Rattle.message.specs.declared.Verdict.the-variants.{Numbered, Snapshot}
 use Rattle.digits.specs.Digits.{rangedOf}
-use Rattle.frame.specs.Fields.{Field}
-use Rattle.frame.specs.Places.{left}
-use Rattle.entries.specs.Values.{_>>=_, Values, number, seqAt, heardAt, instrumentAt, lastAt, loopsAt}
-use Rattle.group.specs.Listed.{grouped, Fair, answered}
-use Rattle.group.specs.declared.Top.{Top}
+use Rattle.chain.specs.Fields.{Field}
+use Rattle.chain.specs.Places.{left}
+use Rattle.values.specs.Values.{_>>=_, Values, number, seqAt, heardAt, instrumentAt, lastAt, loopsAt}
+use Rattle.position.specs.Positions.{Fair}
+use Rattle.group.specs.Listed.{grouped, answered}
+use Rattle.position.specs.declared.Top.{Top}
 use Rattle.lead.specs.declared.Lead.{Lead}
 use Rattle.lead.specs.declared.Topped.{Topped}
 

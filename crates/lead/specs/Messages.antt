@@ -6,11 +6,12 @@ use mathlib.Core.Option.{Option, none, some}
 use lib.Dec.{eqb}
 use Rattle.message.specs.Message.{Head, Message, numbered, snapshot, refused}
 use Rattle.message.specs.declared.Refusal.the-variants.{BadFields}
-use Rattle.frame.specs.Fields.{Field}
+use Rattle.chain.specs.Fields.{Field}
 use Rattle.tags.specs.Tags.{namedTags, otherTags, headX, headW, entryX, entryW, tidy, upTo, past, lookup}
-use Rattle.entries.specs.Values.{_>>=_, need, Values, seqAt, heardAt, instrumentAt, lastAt, loopsAt}
+use Rattle.values.specs.Values.{_>>=_, need, Values, seqAt, heardAt, instrumentAt, lastAt, loopsAt}
 use Rattle.entries.specs.Entries.{entryInX, entryInW}
-use Rattle.group.specs.Groups.{groupOf, each, running, firsts}
+use Rattle.position.specs.Positions.{firsts}
+use Rattle.group.specs.Groups.{groupOf, each, running}
 
 -- 0, f, y, B only carry a number and a time: 34 and 52 once each, before any 268.
 unfoldable pub otherOf : List Field → Option Message

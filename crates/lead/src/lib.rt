@@ -3,17 +3,18 @@
 ghost use mathlib.Core.Path.{_≡_};
 ghost use Rattle.message.specs.Message.{refused, told};
 ghost use Rattle.message.specs.declared.Refusal.the-variants.{BadFields};
-ghost use Rattle.frame.specs.Places.{left};
+ghost use Rattle.chain.specs.Places.{left};
 ghost use Rattle.tags.specs.Slots.{marked};
-ghost use Rattle.group.specs.Listed.{Fair, answered};
+ghost use Rattle.position.specs.Positions.{Fair};
+ghost use Rattle.group.specs.Listed.{answered};
 ghost use Rattle.lead.specs.Messages.{otherOf, changesOf, snapshotOf, orBadFields, typedAs};
 ghost use Rattle.lead.specs.Leads.{bareOf, topX, topW, topped, counted, Leads};
 ghost use Rattle.lead.specs.LeadOf.{aloneLead, breachLead, countedLead, changesLead, snapshotLead, otherLead, leadOf};
+use chain::Step;
 use digits::Number;
-use frame::Step;
-use group::Top;
 use message::Refusal;
 use message::Verdict;
+use position::Top;
 use tags::Marks;
 
 // The tag that ends what stands before a group; no field has the tag 0.
@@ -58,8 +59,8 @@ fn top_x(s: &[u8], m: Marks) -> Topped
     };
     Topped::Is(Top {
         verdict: Verdict::Numbered,
-        first: group::FIRST_X,
-        low: group::ENTRY_X,
+        first: position::FIRST_X,
+        low: position::ENTRY_X,
         number,
         heard,
         id: 0,
@@ -75,7 +76,7 @@ fn top_w(s: &[u8], m: Marks) -> Topped
     let Topped::Is(t) = top_x(s, m) else {
         return Topped::No;
     };
-    let Number::Is(id) = entries::instrument(s, m) else {
+    let Number::Is(id) = values::instrument(s, m) else {
         return Topped::No;
     };
     let Number::Is(last) = digits::ranged(
@@ -96,8 +97,8 @@ fn top_w(s: &[u8], m: Marks) -> Topped
     };
     Topped::Is(Top {
         verdict: Verdict::Snapshot,
-        first: group::FIRST_W,
-        low: group::ENTRY_W,
+        first: position::FIRST_W,
+        low: position::ENTRY_W,
         number: t.number,
         heard: t.heard,
         id,
@@ -112,8 +113,8 @@ fn alone(s: &[u8], verdict: Verdict, number: u64, heard: u64) -> Lead
 {
     let top = Top {
         verdict,
-        first: group::FIRST_X,
-        low: group::ENTRY_X,
+        first: position::FIRST_X,
+        low: position::ENTRY_X,
         number,
         heard,
         id: 0,
@@ -142,7 +143,7 @@ fn counted(s: &[u8], start: usize, t: Top) -> Lead
     if s.len() <= start {
         return breach(s);
     }
-    let Step::Is { tag: _, from, to } = frame::field(s, start) else {
+    let Step::Is { tag: _, from, to } = chain::field(s, start) else {
         return breach(s);
     };
     let Number::Is(count) = digits::ranged(&s[from..to], 2, 0, 64) else {
@@ -156,7 +157,7 @@ fn counted(s: &[u8], start: usize, t: Top) -> Lead
 fn changes(s: &[u8]) -> Lead
     ensures { λ r. ⌜ Leads (now (s .entry)) r (changesLead (now (s .entry))) (λ depth. told (orBadFields (changesOf depth (left (now (s .entry)) 0)))) ⌝ }
 {
-    let p = tags::walk(s, 0, COUNT_TAG, tags::NAMED, HEAD, HEAD_X_END);
+    let p = place::walk(s, 0, COUNT_TAG, tags::NAMED, HEAD, HEAD_X_END);
     if !p.ok {
         return breach(s);
     }
@@ -171,7 +172,7 @@ fn changes(s: &[u8]) -> Lead
 fn snapshot(s: &[u8]) -> Lead
     ensures { λ r. ⌜ Leads (now (s .entry)) r (snapshotLead (now (s .entry))) (λ depth. told (orBadFields (snapshotOf depth (left (now (s .entry)) 0)))) ⌝ }
 {
-    let p = tags::walk(s, 0, COUNT_TAG, tags::NAMED, HEAD, HEAD_W_END);
+    let p = place::walk(s, 0, COUNT_TAG, tags::NAMED, HEAD, HEAD_W_END);
     if !p.ok {
         return breach(s);
     }
@@ -186,11 +187,11 @@ fn snapshot(s: &[u8]) -> Lead
 fn other(s: &[u8]) -> Lead
     ensures { λ r. ⌜ Leads (now (s .entry)) r (otherLead (now (s .entry))) (λ depth. told (orBadFields (otherOf (left (now (s .entry)) 0)))) ⌝ }
 {
-    let p = tags::walk(s, 0, COUNT_TAG, HEAD_X_END, HEAD, HEAD_X_END);
+    let p = place::walk(s, 0, COUNT_TAG, HEAD_X_END, HEAD, HEAD_X_END);
     if !p.ok {
         return breach(s);
     }
-    let q = tags::walk(s, p.at, NO_TAG, HEAD_X_END, 0, 0);
+    let q = place::walk(s, p.at, NO_TAG, HEAD_X_END, 0, 0);
     if !q.ok {
         return breach(s);
     }

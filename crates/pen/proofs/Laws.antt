@@ -9,8 +9,8 @@ use mir.Val.{SFits}
 use Rattle.text.specs.Text.{decimal, Wrote}
 use Rattle.text.proofs.Stores.{and-then, as-text}
 use Rattle.price.specs.Price.{top}
-use Rattle.frame.specs.Fields.{Field, field}
-use Rattle.frame.specs.Bytes.{fieldBytes, bytesOf}
+use Rattle.chain.specs.Fields.{Field, field}
+use Rattle.chain.specs.Bytes.{fieldBytes, bytesOf}
 use Rattle.frame.proofs.Well.{bytes-append}
 
 pub a-field : {l m n p : List ℕ} {a b c d : ℕ} (t : ℕ) (v : List ℕ) → Wrote l a (decimal t ++ (61 ∷ [])) m b → Wrote m b v n c → Wrote n c (1 ∷ []) p d

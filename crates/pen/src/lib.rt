@@ -1,8 +1,7 @@
-// One field and one entry of a snapshot, written into lent bytes at a place (document 01, "Quote and writing"). Each
-// answer is the place after what was written. A byte past the end is left out, as in crate text.
+// One field of a snapshot, written into lent bytes at a place (document 01, "Quote and writing"). Each answer is the place
+// after what was written. A byte past the end is left out, as in crate text.
 ghost use mathlib.Core.List.{[], _∷_, _++_};
 ghost use Prim.Native.Nat.{_+_, _^_, _≤_, _<_};
-ghost use lib.Dec.{eqb};
 ghost use lib.ListN.{length};
 ghost use lib.IntN.{natAbs};
 ghost use Rattle.text.specs.Text.{fixed, decimal, Wrote};
@@ -11,10 +10,8 @@ ghost use Rattle.price.specs.PriceText.{priceText};
 ghost use Rattle.calendar.specs.Calendar.{days};
 ghost use Rattle.moment.specs.Moments.{moments, dateText, timeText, momentText};
 ghost use Rattle.orderid.specs.OrderIds.{idText};
-ghost use Rattle.frame.specs.Fields.{field};
-ghost use Rattle.frame.specs.Bytes.{fieldBytes, bytesOf};
-ghost use Rattle.pen.specs.Entries.{byField, entryFields, frontFields, Writable};
-use book::Entry;
+ghost use Rattle.chain.specs.Fields.{field};
+ghost use Rattle.chain.specs.Bytes.{fieldBytes};
 
 const SOH: u8 = 1;
 
@@ -80,7 +77,7 @@ pub fn moment_field(out: &mut [u8], at: usize, tag: u64, m: u64) -> usize
 }
 
 // A date.
-fn date_field(out: &mut [u8], at: usize, tag: u64, day: u64) -> usize
+pub fn date_field(out: &mut [u8], at: usize, tag: u64, day: u64) -> usize
     requires { ⌜ (at < 2 ^ 26) × (tag < 1000) × (day < days) ⌝ }
     ensures { λ r. ⌜ Wrote (now (out .entry)) at (fieldBytes (field tag (dateText day))) (now (out .exit)) r × (r ≤ at + 50) ⌝ }
 {
@@ -90,7 +87,7 @@ fn date_field(out: &mut [u8], at: usize, tag: u64, day: u64) -> usize
 }
 
 // A time of day.
-fn time_field(out: &mut [u8], at: usize, tag: u64, t: u64) -> usize
+pub fn time_field(out: &mut [u8], at: usize, tag: u64, t: u64) -> usize
     requires { ⌜ (at < 2 ^ 26) × (tag < 1000) ⌝ }
     ensures { λ r. ⌜ Wrote (now (out .entry)) at (fieldBytes (field tag (timeText t))) (now (out .exit)) r × (r ≤ at + 50) ⌝ }
 {
@@ -100,7 +97,7 @@ fn time_field(out: &mut [u8], at: usize, tag: u64, t: u64) -> usize
 }
 
 // A price.
-fn price_field(out: &mut [u8], at: usize, tag: u64, p: i64) -> usize
+pub fn price_field(out: &mut [u8], at: usize, tag: u64, p: i64) -> usize
     requires { ⌜ (at < 2 ^ 26) × (tag < 1000) × (natAbs p < top) ⌝ }
     ensures { λ r. ⌜ Wrote (now (out .entry)) at (fieldBytes (field tag (priceText p))) (now (out .exit)) r × (r ≤ at + 50) ⌝ }
 {
@@ -110,44 +107,11 @@ fn price_field(out: &mut [u8], at: usize, tag: u64, p: i64) -> usize
 }
 
 // An order id.
-fn id_field(out: &mut [u8], at: usize, tag: u64, x: u64, y: u64) -> usize
+pub fn id_field(out: &mut [u8], at: usize, tag: u64, x: u64, y: u64) -> usize
     requires { ⌜ (at < 2 ^ 26) × (tag < 1000) ⌝ }
     ensures { λ r. ⌜ Wrote (now (out .entry)) at (fieldBytes (field tag (idText x y))) (now (out .exit)) r × (r ≤ at + 50) ⌝ }
 {
     let b = put_tag(out, at, tag);
     let d = orderid::put_id(out, b, x, y);
     text::put(out, d, SOH)
-}
-
-// 37 on an order-depth channel, 346 on a price-depth one.
-fn by_field(out: &mut [u8], at: usize, depth: u64, e: Entry) -> usize
-    requires { ⌜ (at < 2 ^ 26) × Writable e ⌝ }
-    ensures { λ r. ⌜ Wrote (now (out .entry)) at (fieldBytes (byField (eqb depth 0) e)) (now (out .exit)) r × (r ≤ at + 50) ⌝ }
-{
-    if depth == 0 {
-        return id_field(out, at, 37, e.by, e.more);
-    }
-    number_field(out, at, 346, e.by)
-}
-
-// 269, 270, 271, 37 or 346.
-fn front(out: &mut [u8], at: usize, depth: u64, sort: u8, e: Entry) -> usize
-    requires { ⌜ (at < 2 ^ 25) × Writable e ⌝ }
-    ensures { λ r. ⌜ Wrote (now (out .entry)) at (bytesOf (frontFields depth sort e)) (now (out .exit)) r × (r ≤ at + 200) ⌝ }
-{
-    let a = byte_field(out, at, 269, sort);
-    let b = price_field(out, a, 270, e.price);
-    let d = number_field(out, b, 271, e.size);
-    by_field(out, d, depth, e)
-}
-
-// An entry at its place; sort is the byte of 269.
-pub fn entry(out: &mut [u8], at: usize, depth: u64, sort: u8, place: u64, e: Entry) -> usize
-    requires { ⌜ (at < 2 ^ 24) × (place < 10 ^ 18) × Writable e ⌝ }
-    ensures { λ r. ⌜ Wrote (now (out .entry)) at (bytesOf (entryFields depth sort place e)) (now (out .exit)) r × (r ≤ at + 350) ⌝ }
-{
-    let a = front(out, at, depth, sort, e);
-    let b = date_field(out, a, 272, e.moment / moment::SPAN);
-    let d = time_field(out, b, 273, e.moment % moment::SPAN);
-    number_field(out, d, 290, place)
 }

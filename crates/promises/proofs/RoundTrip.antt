@@ -22,8 +22,9 @@ use Rattle.fields.specs.Messages.{messageIn}
 use Rattle.store.specs.Meaning.{boardAt}
 use Rattle.sound.specs.Sound.{sound}
 use Rattle.sound.proofs.Laws.{sound-is-canon}
-use Rattle.writer.specs.Snapshot.{snapshotBytes}
-use Rattle.writer.specs.Writing.{letter, writtenOf, outAfter}
+use Rattle.snapshot.specs.Snapshot.{snapshotBytes}
+use Rattle.snapshot.specs.Writing.{letter}
+use Rattle.writer.specs.Writing.{writtenOf, outAfter}
 use Rattle.writer.proofs.Promise.{starts}
 use Rattle.feed.specs.Feeding.{fed}
 use Rattle.feed.proofs.Laws.{feed-is-board}

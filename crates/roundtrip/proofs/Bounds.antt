@@ -10,7 +10,7 @@ use Rattle.text.specs.Text.{fixed, widthTo, widthOf, decimal}
 use Rattle.price.specs.PriceText.{decimals, fractionText, amountText, priceText}
 use Rattle.moment.specs.Moments.{dateText, clockText, timeText, momentText}
 use Rattle.orderid.specs.OrderIds.{isId, wordText, idText, top}
-use Rattle.frame.specs.Bytes.{fieldBytes, bytesOf}
+use Rattle.chain.specs.Bytes.{fieldBytes, bytesOf}
 use Rattle.frame.specs.Frames.{framed}
 use Rattle.book.specs.Ids.{mostId}
 use Rattle.message.specs.Message.{mostNumber}
@@ -19,7 +19,7 @@ use Rattle.book.specs.Rules.{Lists, empty}
 use Rattle.book.specs.declared.Entry.{Entry}
 use Rattle.board.specs.Ranges.{entryFine}
 use Rattle.board.specs.Sound.{SoundSide}
-use Rattle.writer.specs.Snapshot.{Letter, sideFields, snapshotFields, snapshotBytes}
+use Rattle.snapshot.specs.Snapshot.{Letter, sideFields, snapshotFields, snapshotBytes}
 use Rattle.roundtrip.specs.ReadBack.{InRange, BothReached}
 
 -- ---- an empty book, and every number one digit

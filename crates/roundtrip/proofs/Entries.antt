@@ -14,13 +14,13 @@ use Rattle.price.proofs.Back.{price-back}
 use Rattle.moment.specs.Moments.{dayPart, timePart}
 use Rattle.moment.proofs.Back.{date-back, time-back}
 use Rattle.orderid.proofs.Back.{read-back}
-use Rattle.frame.specs.Fields.{Field}
+use Rattle.chain.specs.Fields.{Field}
 use Rattle.book.specs.declared.Entry.{Entry}
 use Rattle.book.specs.declared.Update.{Update}
 use Rattle.tags.specs.Tags.{namedTags, entryW, has, stands, tidy, upTo, parts, lookup}
-use Rattle.entries.specs.Values.{sortOf, byOf, momentIn}
-use Rattle.entries.specs.Entries.{valuesOf, shownEntry, entryInW, says}
-use Rattle.pen.specs.Entries.{entryFields}
+use Rattle.values.specs.Values.{sortOf, byOf, momentIn, valuesOf}
+use Rattle.entries.specs.Entries.{shownEntry, entryInW, says}
+use Rattle.line.specs.Entries.{entryFields}
 use Rattle.roundtrip.proofs.Fine.{Fine, By}
 
 -- a number in its range, in its shortest form

@@ -16,7 +16,7 @@ use Rattle.book.specs.Canonical.{All}
 use Rattle.book.specs.declared.Entry.{Entry}
 use Rattle.board.specs.Ranges.{within, mostSize, mostOrders, entryFine, ordersFine}
 use Rattle.board.proofs.Tested.{entry-sound}
-use Rattle.pen.specs.Entries.{Writable}
+use Rattle.line.specs.Entries.{Writable}
 
 -- 346 in range, with nothing more
 pub record Orders (by more : ℕ) : Type 0 where

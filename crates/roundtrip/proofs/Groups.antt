@@ -8,7 +8,7 @@ use native.Mathlib.Omega.{arith}
 use borrow.Author.Tests.{eq-eqb}
 use lib.Dec.{eqb}
 use lib.ListN.{length, length-append}
-use Rattle.frame.specs.Fields.{Field}
+use Rattle.chain.specs.Fields.{Field}
 use Rattle.book.specs.Canonical.{All}
 use Rattle.book.specs.Rules.{Lists}
 use Rattle.book.specs.declared.Entry.{Entry}
@@ -17,9 +17,10 @@ use Rattle.board.specs.Ranges.{entryFine}
 use Rattle.board.specs.Snapshot.{entriesOf, shown}
 use Rattle.tags.specs.Tags.{namedTags, entryW, allTidy, upTo, parts}
 use Rattle.entries.specs.Entries.{entryInW}
-use Rattle.group.specs.Groups.{each, running, firsts}
-use Rattle.pen.specs.Entries.{entryFields}
-use Rattle.writer.specs.Snapshot.{sideFields}
+use Rattle.position.specs.Positions.{firsts}
+use Rattle.group.specs.Groups.{each, running}
+use Rattle.line.specs.Entries.{entryFields}
+use Rattle.snapshot.specs.Snapshot.{sideFields}
 use Rattle.roundtrip.specs.ReadBack.{newFrom, newOf}
 use Rattle.roundtrip.proofs.Fine.{fine-is}
 use Rattle.roundtrip.proofs.Entries.{bid-back, offer-back, is-tidy, one-part, begins-part}

@@ -10,14 +10,14 @@ use lib.ListN.{length}
 use Rattle.text.specs.Text.{decimal}
 use Rattle.moment.specs.Moments.{momentText}
 use Rattle.moment.proofs.Back.{moment-back}
-use Rattle.frame.specs.Fields.{Field, field}
+use Rattle.chain.specs.Fields.{Field, field}
 use Rattle.book.specs.Rules.{Lists}
 use Rattle.message.specs.Message.{Head, mostNumber}
 use Rattle.tags.specs.Tags.{namedTags, headW, entryW, has, stands, tidy, upTo, past, lookup}
-use Rattle.entries.specs.Values.{bvmf, instrumentOf}
+use Rattle.values.specs.Values.{bvmf, instrumentOf}
 use Rattle.group.specs.Groups.{groupOf}
 use Rattle.lead.specs.Messages.{headOf}
-use Rattle.writer.specs.Snapshot.{Letter}
+use Rattle.snapshot.specs.Snapshot.{Letter}
 use Rattle.roundtrip.specs.ReadBack.{InRange}
 use Rattle.roundtrip.proofs.Entries.{number-back}
 use Rattle.roundtrip.proofs.Groups.{group, entries, group-parts, group-begins, group-count, group-tidy}

@@ -10,15 +10,15 @@ use lib.ListN.{length, length-append}
 use Rattle.text.specs.Text.{widthOf, decimal}
 use Rattle.text.proofs.Written.{width-in, width-more}
 use Rattle.moment.specs.Moments.{dayPart, timePart}
-use Rattle.frame.specs.Fields.{Field}
-use Rattle.frame.specs.Bytes.{bytesOf, allFair}
+use Rattle.chain.specs.Fields.{Field}
+use Rattle.chain.specs.Bytes.{bytesOf, allFair}
 use Rattle.frame.proofs.Well.{bytes-append, fair-append}
 use Rattle.book.specs.Canonical.{All}
 use Rattle.book.specs.Rules.{Lists}
 use Rattle.book.specs.declared.Entry.{Entry}
 use Rattle.board.specs.Ranges.{entryFine}
-use Rattle.pen.specs.Entries.{byField, entryFields}
-use Rattle.writer.specs.Snapshot.{Letter, sideFields, headFields, snapshotFields, snapshotBytes}
+use Rattle.line.specs.Entries.{byField, entryFields}
+use Rattle.snapshot.specs.Snapshot.{Letter, sideFields, headFields, snapshotFields, snapshotBytes}
 use Rattle.writer.proofs.Pages.{long}
 use Rattle.roundtrip.specs.ReadBack.{InRange, Sized}
 use Rattle.roundtrip.proofs.Texts.{Text, text-decimal, text-price, text-date, text-time, text-moment, text-id, text-name}

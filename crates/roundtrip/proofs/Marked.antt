@@ -8,11 +8,11 @@ use Rattle.text.specs.Text.{fixed, widthTo, widthOf, decimal}
 use Rattle.calendar.specs.Calendar.{leap, months, daysIn, daysTo, yearDays, daysBefore, isDate, dayOf, dateNumber}
 use Rattle.calendar.proofs.Dates.{date-back}
 use Rattle.moment.specs.Moments.{span, dateText, clockText, timeText, momentText}
-use Rattle.frame.specs.Bytes.{fieldBytes, bytesOf}
+use Rattle.chain.specs.Bytes.{fieldBytes, bytesOf}
 use Rattle.frame.specs.Frames.{framed}
 use Rattle.frame.specs.Marked.{message}
 use Rattle.book.specs.Rules.{empty}
-use Rattle.writer.specs.Snapshot.{Letter, sideFields, snapshotFields, snapshotBytes}
+use Rattle.snapshot.specs.Snapshot.{Letter, sideFields, snapshotFields, snapshotBytes}
 
 -- SHED to YARD, 1 of 1, at 20250103-13:00:00.000, which is day 739619
 abbrev hut : Letter

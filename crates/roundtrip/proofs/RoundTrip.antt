@@ -5,8 +5,8 @@ use mathlib.Core.Option.{some}
 use Prim.Native.Nat.{ℕ}
 use native.Mathlib.Omega.{arith}
 use lib.ListN.{length, take}
-use Rattle.frame.specs.Fields.{field}
-use Rattle.frame.specs.Bytes.{fair, allFair}
+use Rattle.chain.specs.Fields.{field}
+use Rattle.chain.specs.Bytes.{fair, allFair}
 use Rattle.frame.proofs.Messages.{Back, frame-back}
 use Rattle.digits.proofs.Width.{both}
 use Rattle.book.specs.Canonical.{listsIn}
@@ -15,7 +15,7 @@ use Rattle.book.specs.declared.Book.{Book}
 use Rattle.message.specs.Message.{snapshot}
 use Rattle.lead.specs.Messages.{snapshotOf, orBadFields, typedAs}
 use Rattle.fields.specs.Messages.{messageIn}
-use Rattle.writer.specs.Snapshot.{Letter, snapshotFields, snapshotBytes}
+use Rattle.snapshot.specs.Snapshot.{Letter, snapshotFields, snapshotBytes}
 use Rattle.writer.specs.Writing.{pageOf, writtenOf, outAfter}
 use Rattle.writer.proofs.Promise.{fits, starts}
 use Rattle.roundtrip.specs.ReadBack.{InRange, ReadBack, newOf}

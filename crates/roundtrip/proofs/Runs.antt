@@ -7,9 +7,9 @@ use native.Mathlib.Omega.{arith}
 use lib.ListN.{length, length-append}
 use Rattle.text.specs.Text.{widthOf, decimal}
 use Rattle.text.proofs.Written.{length-decimal, width-in, width-more}
-use Rattle.frame.specs.Fields.{Field, field}
-use Rattle.frame.specs.Bytes.{bytesOf, fair, allFair}
-use Rattle.frame.proofs.Inverse.{is-fair, length-field}
+use Rattle.chain.specs.Fields.{Field, field}
+use Rattle.chain.specs.Bytes.{bytesOf, fair, allFair}
+use Rattle.chain.proofs.Inverse.{is-fair, length-field}
 use Rattle.frame.proofs.Well.{bytes-append, fair-append}
 use Rattle.roundtrip.proofs.Texts.{Text}
 

@@ -3,8 +3,8 @@ use Prim.Native.Nat.{ℕ}
 use native.Mathlib.Omega.{arith}
 use Rattle.book.specs.Canonical.{KeptBook, heldIn, listsIn}
 use Rattle.book.specs.declared.Book.{Book}
-use Rattle.writer.specs.Snapshot.{Letter}
-use Rattle.writer.specs.Writing.{Ready}
+use Rattle.snapshot.specs.Snapshot.{Letter}
+use Rattle.snapshot.specs.Writing.{Ready}
 use Rattle.roundtrip.specs.ReadBack.{InRange}
 use Rattle.roundtrip.proofs.Texts.{text-name}
 use Rattle.roundtrip.proofs.Fine.{all-writable}

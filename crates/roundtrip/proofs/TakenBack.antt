@@ -14,7 +14,7 @@ use Rattle.board.specs.Calls.{inst}
 use Rattle.board.proofs.Giving.{at-put-same}
 use Rattle.board.proofs.Staying.{same-feed, same-look}
 use Rattle.fields.specs.Messages.{messageIn}
-use Rattle.writer.specs.Snapshot.{Letter, snapshotBytes}
+use Rattle.snapshot.specs.Snapshot.{Letter, snapshotBytes}
 use Rattle.roundtrip.specs.ReadBack.{InRange}
 use Rattle.roundtrip.specs.TakenBack.{Awaits, Taken, TakenBack}
 use Rattle.roundtrip.proofs.RoundTrip.{read-back}

@@ -18,7 +18,7 @@ use Rattle.moment.proofs.Texts.{length-date, length-time, length-moment, date-f
 use Rattle.orderid.specs.OrderIds.{isId, idOf, wordFrom, idText, idSound}
 use Rattle.orderid.specs.declared.OrderId.the-variants.{Is}
 use Rattle.orderid.proofs.Back.{was-read, text-back, id-some, id-most, id-free}
-use Rattle.frame.proofs.Ahead.{free-append}
+use Rattle.chain.proofs.Ahead.{free-append}
 
 -- a value of lo to hi bytes
 pub record Text (lo hi : ℕ) (v : List ℕ) : Type 0 where

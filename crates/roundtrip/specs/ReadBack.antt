@@ -14,7 +14,7 @@ use Rattle.message.specs.Message.{mostNumber, snapshot}
 use Rattle.board.specs.Sound.{SoundSide}
 use Rattle.board.specs.Snapshot.{shown}
 use Rattle.fields.specs.Messages.{messageIn}
-use Rattle.writer.specs.Snapshot.{Letter, snapshotBytes}
+use Rattle.snapshot.specs.Snapshot.{Letter, snapshotBytes}
 
 -- What the writer takes: sender and target of 1 to 16 bytes as in 37, 1 ≤ k ≤ m ≤ 16, a time, a SecurityID and H; and the
 -- book of a sound board.

@@ -11,7 +11,7 @@ use Rattle.board.specs.Snapshot.{after}
 use Rattle.board.specs.Feed.{feed}
 use Rattle.board.specs.Calls.{inst}
 use Rattle.fields.specs.Messages.{messageIn}
-use Rattle.writer.specs.Snapshot.{Letter, snapshotBytes}
+use Rattle.snapshot.specs.Snapshot.{Letter, snapshotBytes}
 use Rattle.roundtrip.specs.ReadBack.{InRange}
 
 -- The other board c, for the instrument with the SecurityID who and a book written at H.

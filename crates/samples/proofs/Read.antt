@@ -8,12 +8,12 @@ use Rattle.price.specs.Price.{fractionOf, amountOf, priceOf}
 use Rattle.calendar.specs.Calendar.{leap, months, daysIn, daysTo, yearDays, daysBefore, isDate, dayOf}
 use Rattle.moment.specs.Moments.{dateOf, twoOf, minutesOf, clockOf, timeOf, momentOf}
 use Rattle.orderid.specs.OrderIds.{isId, idOf}
-use Rattle.frame.specs.Fields.{fieldOf, cut, fieldsOf}
-use Rattle.frame.specs.Bytes.{fieldBytes, bytesOf}
+use Rattle.chain.specs.Fields.{fieldOf, cut, fieldsOf}
+use Rattle.chain.specs.Bytes.{fieldBytes, bytesOf}
 use Rattle.frame.specs.Frames.{frameOf, bodyOf}
 use Rattle.tags.specs.Tags.{has, stands, tidy, upTo, past, parts, allTidy, lookup}
-use Rattle.entries.specs.Values.{bvmf, instrumentOf, sortOf, byOf, momentIn}
-use Rattle.entries.specs.Entries.{valuesOf, bookEntry, entryInX, shownEntry, entryInW}
+use Rattle.values.specs.Values.{bvmf, instrumentOf, sortOf, byOf, momentIn, valuesOf}
+use Rattle.entries.specs.Entries.{bookEntry, entryInX, shownEntry, entryInW}
 use Rattle.message.specs.Message.{snapshot, refused}
 use Rattle.message.specs.declared.Refusal.the-variants.{BadFields}
 use Rattle.group.specs.Groups.{groupOf, each, running}

@@ -11,7 +11,7 @@ use Rattle.moment.specs.Moments.{moments}
 use Rattle.orderid.specs.OrderIds.{isId, idBytes, top, full, idSound}
 use Rattle.book.specs.Canonical.{All, heldIn}
 use Rattle.book.specs.declared.Entry.{Entry}
-use Rattle.pen.specs.Entries.{Writable}
+use Rattle.line.specs.Entries.{Writable}
 use Rattle.board.specs.Board.{at, noInst}
 use Rattle.board.specs.Ranges.{within, mostId, mostOrders, idFine, ordersFine, byFine, entryFine}
 use Rattle.board.specs.Sound.{SoundInst}
@@ -21,7 +21,7 @@ use Rattle.store.specs.Meaning.{bookAt, instAt, boardOf, boardAt, loaded}
 use Rattle.store.proofs.Decode.{at-board, insts-length}
 use Rattle.sound.specs.Sound.{sound}
 use Rattle.sound.proofs.Readers.{formed, board}
-use Rattle.writer.specs.Writing.{letter, Ready}
+use Rattle.snapshot.specs.Writing.{letter, Ready}
 use Rattle.send.specs.Send.{argumentsFine}
 
 -- ---- an entry in range can be written

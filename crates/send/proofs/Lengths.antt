@@ -15,13 +15,13 @@ use Rattle.price.specs.PriceText.{decimals, fractionText, amountText, priceText
 use Rattle.moment.specs.Moments.{dayPart, timePart}
 use Rattle.moment.proofs.Texts.{length-date, length-time, length-moment}
 use Rattle.orderid.specs.OrderIds.{wordText, idText}
-use Rattle.frame.specs.Fields.{Field}
-use Rattle.frame.specs.Bytes.{fieldBytes, bytesOf}
-use Rattle.frame.proofs.Inverse.{length-field}
+use Rattle.chain.specs.Fields.{Field}
+use Rattle.chain.specs.Bytes.{fieldBytes, bytesOf}
+use Rattle.chain.proofs.Inverse.{length-field}
 use Rattle.book.specs.Rules.{Lists}
 use Rattle.book.specs.declared.Entry.{Entry}
-use Rattle.pen.specs.Entries.{byField, entryFields}
-use Rattle.writer.specs.Snapshot.{Letter, sideFields, headFields, snapshotFields, snapshotBytes}
+use Rattle.line.specs.Entries.{byField, entryFields}
+use Rattle.snapshot.specs.Snapshot.{Letter, sideFields, headFields, snapshotFields, snapshotBytes}
 use Rattle.writer.proofs.Pages.{long}
 
 -- ---- values

@@ -19,8 +19,9 @@ use Rattle.store.specs.Meaning.{State, bookAt, instAt, boardOf, boardIn, boardA
 use Rattle.store.proofs.Decode.{insts-length, at-board}
 use Rattle.sound.specs.Sound.{sound}
 use Rattle.writer.specs.declared.Written.{Written}
-use Rattle.writer.specs.Snapshot.{Letter}
-use Rattle.writer.specs.Writing.{letter, pageOf, Ready, writtenOf}
+use Rattle.snapshot.specs.Snapshot.{Letter}
+use Rattle.snapshot.specs.Writing.{letter, Ready}
+use Rattle.writer.specs.Writing.{pageOf, writtenOf}
 use Rattle.send.specs.Send.{Page, message, refusal, argumentsFine, pageAt, sentPage, pageAnswer, pageOut, sendAnswer, sendOut, Sent}
 use Rattle.send.proofs.Lengths.{snapshot-most}
 

@@ -13,8 +13,9 @@ use Rattle.board.specs.Ranges.{idFine}
 use Rattle.store.specs.Meaning.{boardAt}
 use Rattle.sound.specs.Sound.{sound}
 use Rattle.writer.specs.declared.Written.{Written}
-use Rattle.writer.specs.Snapshot.{Letter, snapshotBytes}
-use Rattle.writer.specs.Writing.{letter, writtenOf, outAfter}
+use Rattle.snapshot.specs.Snapshot.{Letter, snapshotBytes}
+use Rattle.snapshot.specs.Writing.{letter}
+use Rattle.writer.specs.Writing.{writtenOf, outAfter}
 
 -- What a writing comes to before the output's room is looked at: a message, or the number of a refusal.
 pub data Page : Type 0 where

@@ -10,7 +10,8 @@ ghost use Rattle.board.specs.Board.{look};
 ghost use Rattle.store.specs.Layout.{storeSize};
 ghost use Rattle.store.specs.Meaning.{bookAt, boardAt};
 ghost use Rattle.sound.specs.Sound.{sound};
-ghost use Rattle.writer.specs.Writing.{letter, pageOf, Ready, writtenOf, outAfter};
+ghost use Rattle.snapshot.specs.Writing.{letter, Ready};
+ghost use Rattle.writer.specs.Writing.{pageOf, writtenOf, outAfter};
 ghost use Rattle.send.specs.Send.{argumentsFine, pageAt, writtenNumber, pageAnswer, pageOut, Sent};
 
 // A loop has at most 16 messages.

@@ -1,5 +1,4 @@
 pub mod Slots
 pub mod Marking
 pub mod Tidiness
-pub mod Walking
 pub mod Unbroken

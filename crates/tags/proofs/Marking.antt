@@ -8,8 +8,8 @@ use borrow.Author.Tests.{le-leb, ne-eqb, eqb-true, eqb-false}
 use lib.Dec.{leb, eqb}
 use lib.ListN.{length, getD, set, replicate, length-set, getD-replicate}
 use lib.Seq.{getD-set-same, getD-set-other}
-use Rattle.frame.specs.Fields.{Field, field}
-use Rattle.frame.specs.Places.{part}
+use Rattle.chain.specs.Fields.{Field, field}
+use Rattle.chain.specs.Places.{part}
 use Rattle.tags.specs.Tags.{stands, lookup}
 use Rattle.tags.specs.Slots.{slotOf, noMarks, textAt, marked, Holds}
 use Rattle.tags.specs.declared.Marks.{Marks}

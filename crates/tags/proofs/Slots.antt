@@ -11,7 +11,7 @@ use lib.Dec.{leb, ltb, eqb, leb·zero}
 use lib.ListN.{length, getD, take, drop}
 use lib.Seq.{take-nil}
 use Rattle.digits.proofs.Width.{both}
-use Rattle.frame.specs.Fields.{ahead}
+use Rattle.chain.specs.Fields.{ahead}
 use Rattle.tags.specs.Tags.{namedTags, has}
 use Rattle.tags.specs.Slots.{slotOf, below, between}
 

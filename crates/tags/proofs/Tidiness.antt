@@ -1,17 +1,16 @@
 -- The rules of a place, checked field by field as they come. Assumes nothing.
 use mathlib.Core.Path.{_≡_, refl, sym}
-use mathlib.Core.List.{List, [], _∷_, _++_, append-assoc, append-nil}
-use mathlib.Core.Bool.{Bool, true, false, cond, not, _&&_, _||_, and-false, or-true, false≢true, true≢false}
-use mathlib.Core.Option.{Option, none, some}
+use mathlib.Core.List.{List, [], _∷_, _++_}
+use mathlib.Core.Bool.{Bool, true, false, not, _&&_, _||_, and-false, or-true, false≢true, true≢false}
 use Prim.Native.Nat.{ℕ, _+_, _≤_, _<_}
 use native.Mathlib.Omega.{arith}
 use borrow.Author.Tests.{eqb-true, eqb-false, eq-eqb, ne-eqb, ltb-true, ltb-false, le-leb, lt-leb}
 use lib.Dec.{leb, ltb, eqb}
 use lib.ListN.{getD}
 use Rattle.digits.proofs.Width.{both}
-use Rattle.frame.specs.Fields.{Field}
-use Rattle.tags.specs.Tags.{has, stands, tidy, upTo, onward}
-use Rattle.tags.specs.Slots.{slotOf, below, between, strays, Holds, Split}
+use Rattle.chain.specs.Fields.{Field}
+use Rattle.tags.specs.Tags.{has, stands, tidy}
+use Rattle.tags.specs.Slots.{slotOf, below, between, strays, Holds}
 use Rattle.tags.specs.declared.Marks.{Marks}
 use Rattle.tags.proofs.Slots.{has-below, has-between}
 use Rattle.tags.proofs.Marking.{stands-last}
@@ -115,27 +114,3 @@ module _ (s : List ℕ) (m : Marks) (e : List Field) (named low high : ℕ) (h :
           let r : stands (f .tag) e ≡ not (eqb (getD (m .to) k 0) 0) = rw q at (h .seen (f .tag) l) in
           rw (not-below k low, not-below k high, r) (outside (ltb k low) (ltb k high) (not (eqb (getD (m .to) k 0) 0)))
       go k q false p = refl
-
--- ---- a place up to a tag
-module _ (stop named low high : ℕ) where
-  -- with e before it
-  abbrev pub splitFrom : List Field → List Field → Option Split
-  splitFrom e fs =
-      cond (tidy (below named) (between low high) (e ++ upTo stop fs)) (some (record { inside = e ++ upTo stop fs; rest = onward stop fs })) none
-
-  module _ (e : List Field) (t : tidy (below named) (between low high) e ≡ true) where
-    pub split-end : splitFrom e [] ≡ some (record { inside = e; rest = [] })
-    unfolding upTo onward
-    split-end = rw (append-nil, t)
-
-    pub split-stop : (f : Field) (fs : List Field) → f .tag ≡ stop → splitFrom e (f ∷ fs) ≡ some (record { inside = e; rest = f ∷ fs })
-    unfolding upTo onward
-    split-stop f fs q = rw (eq-eqb (f .tag) stop q, append-nil, t)
-
-    pub split-stray : (f : Field) (fs : List Field) → (f .tag ≡ stop → ⊥) → fits (below named) (between low high) e f ≡ false → splitFrom e (f ∷ fs) ≡ none
-    unfolding upTo
-    split-stray f fs q h = rw (ne-eqb (f .tag) stop q, tidy-stray (below named) (between low high) e f (upTo stop fs) h)
-
-    pub split-more : (f : Field) (fs : List Field) → (f .tag ≡ stop → ⊥) → splitFrom e (f ∷ fs) ≡ splitFrom (e ++ (f ∷ [])) fs
-    unfolding upTo onward
-    split-more f fs q = rw (ne-eqb (f .tag) stop q, append-assoc e (f ∷ []) (upTo stop fs))

@@ -8,9 +8,9 @@ use borrow.Author.Tests.{eqb-true}
 use lib.Dec.{eqb}
 use lib.ListN.{drop}
 use Rattle.digits.proofs.Width.{both}
-use Rattle.frame.specs.Fields.{Field, fieldsOf}
-use Rattle.frame.specs.Places.{broken, left}
-use Rattle.frame.proofs.Walk.{left-whole, left-broken}
+use Rattle.chain.specs.Fields.{Field, fieldsOf}
+use Rattle.chain.specs.Places.{broken, left}
+use Rattle.chain.proofs.Walk.{left-whole, left-broken}
 use Rattle.tags.specs.Tags.{has, stands, tidy, allTidy, upTo, past, parts}
 use Rattle.tags.proofs.Marking.{stands-last}
 

@@ -2,15 +2,13 @@
 use Prim.Native.Nat.{ℕ, _-_, _<_}
 use mathlib.Core.Path.{_≡_}
 use mathlib.Core.List.{List, []}
-use mathlib.Core.Bool.{Bool, true, false, cond, not, _&&_, _||_}
-use mathlib.Core.Option.{Option, none, some}
+use mathlib.Core.Bool.{Bool, cond, not, _&&_, _||_}
 use lib.Dec.{leb, ltb, eqb}
 use lib.ListN.{length, getD, take, drop, replicate}
-use Rattle.frame.specs.Fields.{Field, ahead}
-use Rattle.frame.specs.Places.{part, left}
-use Rattle.tags.specs.Tags.{namedTags, tidy, stands, upTo, onward, lookup}
+use Rattle.chain.specs.Fields.{Field, ahead}
+use Rattle.chain.specs.Places.{part}
+use Rattle.tags.specs.Tags.{namedTags, stands, lookup}
 use Rattle.tags.specs.declared.Marks.{Marks}
-use Rattle.tags.specs.declared.Place.{Place}
 
 -- A tag's slot is its place among those named; every other tag has the slot after them.
 unfoldable pub slotOf : ℕ → ℕ
@@ -49,24 +47,3 @@ strays k named low high seen = ltb k named && ((ltb k low || leb high k) || not 
 -- Bytes that are no field breach them: 8, which stands for such bytes, has slot 0, and the place does not end at it.
 abbrev pub breaks : ℕ → ℕ → ℕ → ℕ → Bool
 breaks stop named low high = not (eqb 8 stop) && strays 0 named low high 0
-
--- A place and what follows it.
-pub record Split : Type 0 where
-  pub inside : List Field
-  pub rest : List Field
-
--- The place up to a tag, unless a rule is breached.
-abbrev pub splitAt : ℕ → ℕ → ℕ → ℕ → List Field → Option Split
-splitAt stop named low high fs =
-    cond (tidy (below named) (between low high) (upTo stop fs)) (some (record { inside = upTo stop fs; rest = onward stop fs })) none
-
--- What follows a place that was walked.
-pub record Walked (named : ℕ) (s : List ℕ) (r : Place) (p : Split) : Type 0 where
-  pub ok : r .ok ≡ true
-  pub holds : Holds named s (r .marks) (p .inside)
-  pub rest : left s (r .at) ≡ p .rest
-
--- What a walk tells.
-abbrev pub Tells : ℕ → List ℕ → Place → Option Split → Type 0
-Tells named s r none = r .ok ≡ false
-Tells named s r (some p) = Walked named s r p

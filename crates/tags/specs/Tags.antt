@@ -3,7 +3,7 @@ use Prim.Native.Nat.{ℕ}
 use mathlib.Core.List.{List, [], _∷_, _++_}
 use mathlib.Core.Bool.{Bool, true, false, cond, not, _&&_, _||_}
 use lib.Dec.{eqb}
-use Rattle.frame.specs.Fields.{Field}
+use Rattle.chain.specs.Fields.{Field}
 
 -- 8, 9, 35 and 10 stand once: none of them among the fields between 35 and 10.
 abbrev pub frameTags : List ℕ

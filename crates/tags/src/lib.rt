@@ -1,13 +1,10 @@
 // Where tags stand in a message (document 01, "Fields"). A place of the message is a run of fields: those before 268, or
 // those of an entry. Of the tags that are named only some may stand in it, and none twice. What stands in it is marked
 // by the slot of its tag, as a part of the lent bytes, and nothing is read until it is needed.
-ghost use mathlib.Core.Bool.{true};
 ghost use mathlib.Core.Path.{_≡_};
 ghost use Prim.Native.Nat.{_≤_, _<_};
 ghost use lib.ListN.{getD};
-ghost use Rattle.tags.specs.Slots.{slotOf, noMarks, textAt, strays, breaks};
-ghost use Rattle.tags.specs.Walks.{Walk};
-use frame::Step;
+ghost use Rattle.tags.specs.Slots.{slotOf, noMarks, textAt, strays};
 
 // The slots, in an order in which what may stand in a place is one run of them. Slots 0 to 3 are those of 8, 9, 35 and
 // 10, which may stand in no place.
@@ -52,13 +49,6 @@ pub const NAMED: usize = 21;
 pub struct Marks {
     pub from: [usize; 22],
     pub to: [usize; 22],
-}
-
-// A place that was walked: whether its rules hold, where it ends, and what stands in it.
-pub struct Place {
-    pub ok: bool,
-    pub at: usize,
-    pub marks: Marks,
 }
 
 // The slot of a tag.
@@ -124,48 +114,4 @@ pub fn value(s: &[u8], m: Marks, k: usize) -> &[u8]
         return &s[0..0];
     }
     &s[from..to]
-}
-
-// Walks a place from `start` up to the first field with the tag `stop`, or to the end. Of the first `named` slots only
-// those from low up to high may stand in it. Bytes that are no field breach its rules.
-pub fn walk(s: &[u8], start: usize, stop: u64, named: usize, low: usize, high: usize) -> Place
-    requires { ⌜ (named ≤ 21) × ((high ≤ 21) × (breaks stop named low high ≡ true)) ⌝ }
-    ensures { λ r. ⌜ Walk (now (s .entry)) start stop named low high r ⌝ }
-{
-    let end = s.len();
-    let mut m = no_marks();
-    let mut at = start;
-    while at < end {
-        let Step::Is { tag, from, to } = frame::field(s, at) else {
-            return Place {
-                ok: false,
-                at,
-                marks: m,
-            };
-        };
-        if tag == stop {
-            return Place {
-                ok: true,
-                at,
-                marks: m,
-            };
-        }
-        let k = slot(tag);
-        let seen = m.to[k];
-        if stray(k, named, low, high, seen) {
-            return Place {
-                ok: false,
-                at,
-                marks: m,
-            };
-        }
-        m.from[k] = from;
-        m.to[k] = to;
-        at = to + 1;
-    }
-    Place {
-        ok: true,
-        at,
-        marks: m,
-    }
 }

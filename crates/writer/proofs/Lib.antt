@@ -1,4 +1,3 @@
 pub mod Names
-pub mod Sides
 pub mod Pages
 pub mod Promise

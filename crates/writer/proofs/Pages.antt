@@ -9,10 +9,10 @@ use lib.Seq.{sets-eq, take-append-seam}
 use Rattle.text.specs.Text.{fixed, widthOf, decimal, Wrote}
 use Rattle.text.proofs.Written.{length-decimal}
 use Rattle.text.proofs.Stores.{and-then, as-text}
-use Rattle.frame.specs.Fields.{Field, field}
-use Rattle.frame.specs.Bytes.{fieldBytes, bytesOf}
+use Rattle.chain.specs.Fields.{Field, field}
+use Rattle.chain.specs.Bytes.{fieldBytes, bytesOf}
 use Rattle.frame.specs.Frames.{total, headed, framed}
-use Rattle.frame.proofs.Inverse.{length-field}
+use Rattle.chain.proofs.Inverse.{length-field}
 use Rattle.frame.proofs.Well.{bytes-append, tags, eight-bytes, length-ten}
 use Rattle.writer.specs.Writing.{writtenOf, outAfter, openingFields}
 

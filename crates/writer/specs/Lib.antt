@@ -1,2 +1,1 @@
-pub mod Snapshot
 pub mod Writing

@@ -4,7 +4,7 @@ use borrow.Author.Tests.{le-leb, lt-leb}
 use borrow.Author.Needs.{needs}
 use Rattle.tags.specs.Slots.{slotOf, marked}
 use Rattle.entries.specs.Entries.{bookEntry, said}
-use Rattle.entries.proofs.Answers.{no-values, are-values}
+use Rattle.values.proofs.Answers.{no-values, are-values}
 use Rattle.entries.proofs.book_entry.Statement.{statement}
 use Rattle.entries.proofs.book_entry.Tie as tie
 

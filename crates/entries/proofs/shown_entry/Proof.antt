@@ -3,7 +3,7 @@ use mathlib.Core.Path.{sym, _∙_}
 use borrow.Author.Needs.{needs}
 use Rattle.tags.specs.Slots.{slotOf, marked}
 use Rattle.entries.specs.Entries.{shownEntry, said}
-use Rattle.entries.proofs.Answers.{no-values, are-values}
+use Rattle.values.proofs.Answers.{no-values, are-values}
 use Rattle.entries.proofs.shown_entry.Statement.{statement}
 use Rattle.entries.proofs.shown_entry.Tie as tie
 

@@ -2,7 +2,7 @@
 use mathlib.Core.Path.{sym, _∙_}
 use native.Mathlib.Omega.{arith}
 use Rattle.frame.specs.ByPlace.{headOf}
-use Rattle.frame.proofs.Walk.{found}
+use Rattle.chain.proofs.Walk.{found}
 use Rattle.frame.proofs.Opened.{tagged-is}
 use borrow.Author.Tests.{not-true, not-false}
 use borrow.Author.Needs.{needs}

@@ -6,8 +6,8 @@ use native.Mathlib.Omega.{arith}
 use borrow.Author.Tests.{not-true, not-false}
 use borrow.Author.Needs.{needs}
 use lib.ListN.{length}
-use Rattle.frame.specs.Places.{left}
-use Rattle.frame.proofs.Walk.{found}
+use Rattle.chain.specs.Places.{left}
+use Rattle.chain.proofs.Walk.{found}
 use Rattle.tags.specs.Tags.{upTo}
 use Rattle.tags.specs.declared.Marks.{Marks}
 use Rattle.entries.proofs.Answers.{said-bad, said-passed, said-is}

@@ -3,10 +3,10 @@ use mathlib.Core.Path.{sym, ap, _∙_}
 use native.Mathlib.Omega.{arith}
 use borrow.Author.Needs.{needs}
 use Rattle.digits.proofs.Ranges.{ranged-in}
-use Rattle.frame.proofs.Walk.{found}
+use Rattle.chain.proofs.Walk.{found}
 use Rattle.group.specs.Listed.{answered}
 use Rattle.lead.proofs.Leading.{leads-as}
-use Rattle.group.proofs.Positions.{none-answered}
+use Rattle.group.proofs.Reading.{none-answered}
 use Rattle.lead.proofs.Bodies.{no-group, torn-count, bad-count, good-count}
 use Rattle.lead.proofs.Led.{none-led, torn-led, bad-led, good-led}
 use Rattle.lead.proofs.counted.Statement.{statement}

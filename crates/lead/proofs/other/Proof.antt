@@ -3,8 +3,8 @@ use mathlib.Core.Path.{refl, sym, _∙_}
 use native.Mathlib.Omega.{arith}
 use borrow.Author.Tests.{not-true, not-false}
 use borrow.Author.Needs.{needs}
-use Rattle.frame.proofs.Walk.{left-tagged}
-use Rattle.tags.proofs.Walking.{was-untidy, was-tidy}
+use Rattle.chain.proofs.Walk.{left-tagged}
+use Rattle.place.proofs.Walking.{was-untidy, was-tidy}
 use Rattle.lead.proofs.Leading.{leads-as}
 use Rattle.lead.proofs.Leading.{no-top, a-top}
 use Rattle.lead.proofs.Bodies.{refused-by, o-untidy, o-untidy-rest, o-no-top, is-top-x, top-x-same, o-is}

@@ -2,7 +2,8 @@
 use mathlib.Core.Path.{ap, _∙_}
 use native.Mathlib.Omega.{arith}
 use Rattle.book.specs.declared.Book.{Book}
-use Rattle.writer.specs.Writing.{letter, pageOf, Ready, writtenOf, outAfter}
+use Rattle.snapshot.specs.Writing.{letter, Ready}
+use Rattle.writer.specs.Writing.{pageOf, writtenOf, outAfter}
 use Rattle.send.specs.Send.{writtenNumber}
 use Rattle.send.proofs.Pages.{page-most, written-most}
 use borrow.Author.Needs.{needs}

@@ -7,7 +7,8 @@ use Rattle.heading.specs.Marks.{marked}
 use Rattle.board.specs.Board.{look}
 use Rattle.store.specs.Meaning.{st, loaded, headingAt, boardAt, bookAt}
 use Rattle.store.specs.Canon.{Formed}
-use Rattle.writer.specs.Writing.{letter, pageOf}
+use Rattle.snapshot.specs.Writing.{letter}
+use Rattle.writer.specs.Writing.{pageOf}
 use Rattle.send.specs.Send.{Page, message, refusal, pageAt, pageAnswer, pageOut}
 use Rattle.sound.proofs.Readers.{formed, marks}
 use Rattle.send.proofs.Facts.{ready}

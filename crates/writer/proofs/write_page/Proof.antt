@@ -1,11 +1,11 @@
 -- A dry run for the length; then 8 and 9, the body, and 10 with the sum. Assumes nothing.
 use Prim.Native.Nat.{_+_, _≤_, _<_}
 use Rattle.book.specs.Canonical.{listsIn}
-use Rattle.frame.specs.Bytes.{bytesOf}
+use Rattle.chain.specs.Bytes.{bytesOf}
 use Rattle.text.specs.Text.{widthOf}
 use Rattle.writer.proofs.Pages.{short-written, short-after, done-written, done-after}
-use Rattle.writer.specs.Snapshot.{snapshotFields, snapshotBytes}
-use Rattle.writer.specs.Writing.{letter}
+use Rattle.snapshot.specs.Snapshot.{snapshotFields, snapshotBytes}
+use Rattle.snapshot.specs.Writing.{letter}
 use borrow.Author.Needs.{needs}
 use lib.ListN.{length}
 use mathlib.Core.Path.{_≡_, sym}
