@@ -12,12 +12,12 @@ namespace {
 constexpr int BETWEEN = 50; // messages between two looks at all books
 
 // Values at the bounds of one field or another, and just outside.
-const char *const VALUES[] = {"0",        "1",        "2",        "4",         "5",        "8",         "00",       "01",
-                              "J",        "-0",       "1.",       "-0.5",      "1.23456789", "000000001.1", "20",   "21",
-                              "64",       "65",       "65535",    "65536",     "4294967295", "4294967296", "999999999999",
-                              "1000000000000", "20240229", "20250229", "00000229", "23:59:60", "24:00:00",  "12:00:00.00",
-                              "20250103-12:00:60.999", "ABCDEFGHIJKLMNOP", "ABCDEFGHIJKLMNOPQ", "BVMF", "FIX.4.4"};
-const int TAGS[] = {8, 9, 10, 22, 34, 35, 37, 48, 49, 52, 55, 207, 268, 269, 270, 271, 272, 273, 279, 290, 346, 369, 911};
+const char *const VALUES[] = {
+    "0", "1", "2", "4", "5", "8", "00", "01", "J", "-0", "1.", "-0.5", "1.23456789", "000000001.1", "20", "21", "64", "65", "65535",
+    "65536", "4294967295", "4294967296", "999999999999", "1000000000000", "20240229", "20250229", "00000229", "23:59:60", "24:00:00",
+    "12:00:00.00", "20250103-12:00:60.999", "ABCDEFGHIJKLMNOP", "ABCDEFGHIJKLMNOPQ", "A~", "A\x7f", "BVMF", "FIX.4.4"};
+const int TAGS[] = {8,   9,   10,  22,  34,  35,  37,  48,  49,  52,  55,    99999, 100000,
+                    207, 268, 269, 270, 271, 272, 273, 279, 290, 346, 369, 911};
 
 template <typename T, size_t N> const T &any(const T (&all)[N], Draw &draw) { return all[draw.below(N)]; }
 
@@ -69,7 +69,7 @@ void harm_bytes(std::string &message, Draw &draw) {
 
 // What messages are drawn from.
 struct Source {
-    Stream few, many;
+    Stream few, many, most; // entries a message
     std::string over; // a snapshot with 21 bids
 };
 
@@ -87,7 +87,7 @@ std::string over_full(const std::string &snapshot) {
 // The next message: an X, a snapshot or a heartbeat, numbered after what the board holds, and often harmed.
 std::string next(const Source &source, const plain_board &board, Draw &draw) {
     const unsigned sort = draw.below(10);
-    const Stream &stream = draw.below(2) ? source.few : source.many;
+    const Stream &stream = draw.below(16) == 0 ? source.most : draw.below(2) ? source.few : source.many;
     const unsigned jump = draw.below(60), back = draw.below(3);
     const uint64_t number = jump == 0 ? board.number + 2 : jump == 1 ? std::max<uint64_t>(board.number, 1) : board.number + 1;
     char type = sort < 5 ? 'X' : sort < 9 ? 'W' : '0';
@@ -114,7 +114,7 @@ std::string next(const Source &source, const plain_board &board, Draw &draw) {
 
 std::string disagreement(Depth depth, int messages, std::map<uint64_t, int> &answers) {
     const Source source = [depth] {
-        Source made = {make_stream(depth, 200, 1), make_stream(depth, 50, 10), ""};
+        Source made = {make_stream(depth, 200, 1), make_stream(depth, 50, 10), make_stream(depth, 10, 64), ""};
         made.over = over_full(made.few.snapshots[0]);
         return made;
     }();

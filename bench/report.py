@@ -58,7 +58,8 @@ NOTES = """\
   anything differs.
 - The store starts at an address that 64 divides, as a line of the cache does (`bench/store.hpp`). A time depends on where in
   memory it lies, so each round takes another of 31 copies; a scan and its loop have the same one. The proved code starts at such an
-  address too (`bench/align.c`): in another program it may lie less well, or better.
+  address too (`bench/align.c`), so that builds of the bench compare. In another program it may lie less well: in a build without that
+  the scan where the queue is full took a fifth more on a Neoverse-N1.
 - A time is the processor's time of the thread, by round, divided by the calls of the round; the rounds of the rows take turns, and
   each is done once before it is timed, so that what it needs is in the caches. A repetition is a run of the program, with addresses
   of its own, and its time is the mean of the middle half of its rounds. A table has the median of the repetitions, the lowest and
