@@ -13,13 +13,22 @@ FOLDERS = ("bench", "crates", "docs", "examples", "gateway", "include", "samples
 
 
 def named(page):
-    """The paths that a page names: targets of links, seen from the page, and words in backquotes, seen from the root."""
+    """The paths that a page names: targets of links, seen from the page; words in backquotes, seen from the root or from crates/."""
     text = page.read_text()
     for target in re.findall(r"\]\(([^)#:]+)[^):]*\)", text):
         yield page.parent / target, target
-    for word in re.findall(r"`([\w./-]+/[\w.-]+)`", text):
+    for word in re.findall(r"`([\w./{},-]+/[\w.{},-]+)`", text):
         if word.startswith(tuple(folder + "/" for folder in FOLDERS)):
             yield ROOT / word, word
+        elif re.match(r"[\w{},]+/(specs|proofs|src|must-fail)\b", word):
+            for one in spread(word):
+                yield ROOT / "crates" / one, one
+
+
+def spread(word):
+    """The words that braces stand for: a{b,c}d is abd and acd."""
+    found = re.match(r"(.*?)\{(.*?)\}(.*)", word)
+    return [found[1] + part + rest for part in found[2].split(",") for rest in spread(found[3])] if found else [word]
 
 
 def lost():
