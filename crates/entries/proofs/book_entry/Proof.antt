@@ -1,5 +1,8 @@
 -- `entries::book_entry` meets its contract: each return rewrites with what was read so far. Assumes nothing.
-use mathlib.Core.Path.{sym, _∙_}
+use Prim.Native.Nat.{ℕ, _≤_, _<_}
+use mathlib.Core.Bool.{true, false}
+use lib.Dec.{leb}
+use mathlib.Core.Path.{_≡_, sym, _∙_}
 use borrow.Author.Tests.{le-leb, lt-leb}
 use borrow.Author.Needs.{needs}
 use Rattle.tags.specs.Slots.{slotOf, marked}
@@ -7,6 +10,13 @@ use Rattle.entries.specs.Entries.{bookEntry, said}
 use Rattle.values.proofs.Answers.{no-values, are-values}
 use Rattle.entries.proofs.book_entry.Statement.{statement}
 use Rattle.entries.proofs.book_entry.Tie as tie
+
+-- new and change have values, and the deletes have none
+has-values : (action : ℕ) → action ≤ 1 → leb action 1 ≡ true
+has-values action l = le-leb action 1 l
+
+deletes : {action : ℕ} → 1 < action → leb action 1 ≡ false
+deletes l = lt-leb _ 1 l
 
 value-requires : tie.Need-value-requires
 value-requires c κs = search needs
@@ -56,7 +66,7 @@ returns-3 c =
       ← c .before .before .before .before .before .before .before .before .before .before .value .ensures,
       sym (c .before .before .before .before .before .before .before .before .before .ranged .ensures) ∙ c .before .before .before .before .before .before .before .place .given .1,
       sym (c .before .before .before .before .before .instrument .ensures) ∙ c .before .before .before .id .given .1,
-      lt-leb _ _ (c .before .if1 .taken),
+      deletes (c .before .if1 .taken),
       c .no-entry .ensures,
     )
 
@@ -76,7 +86,7 @@ returns-4 c =
       ← c .before .before .before .before .before .before .before .before .before .before .before .before .value .ensures,
       sym (c .before .before .before .before .before .before .before .before .before .before .before .ranged .ensures) ∙ c .before .before .before .before .before .before .before .before .before .place .given .1,
       sym (c .before .before .before .before .before .before .before .instrument .ensures) ∙ c .before .before .before .before .before .id .given .1,
-      le-leb _ _ (c .before .before .before .if1 .left),
+      has-values (c .before .before .before .before .before .before .before .before .before .before .before .before .before .before .args .action) (c .before .before .before .if1 .left),
       no-values _ (sym (c .before .before .values .ensures) ∙ c .enum-told3 .given .1),
     )
 
@@ -87,7 +97,7 @@ returns-5 c =
       ← c .before .before .before .before .before .before .before .before .before .before .before .before .before .value .ensures,
       sym (c .before .before .before .before .before .before .before .before .before .before .before .before .ranged .ensures) ∙ c .before .before .before .before .before .before .before .before .before .before .place .given .1,
       sym (c .before .before .before .before .before .before .before .before .instrument .ensures) ∙ c .before .before .before .before .before .before .id .given .1,
-      le-leb _ _ (c .before .before .before .before .if1 .left),
+      has-values (c .before .before .before .before .before .before .before .before .before .before .before .before .before .before .before .args .action) (c .before .before .before .before .if1 .left),
       are-values _ (sym (c .before .before .before .values .ensures) ∙ c .before .e .given .1),
     )
 

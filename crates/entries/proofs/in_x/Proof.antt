@@ -1,11 +1,19 @@
 -- `entries::in_x` meets its contract: 279, then 269, then by its sort. Assumes nothing.
-use mathlib.Core.Path.{sym, _∙_}
+use Prim.Native.Nat.{ℕ}
+use mathlib.Core.List.{List}
+use mathlib.Core.Path.{_≡_, sym, _∙_}
 use borrow.Author.Tests.{le-leb, lt-leb, eq-eqb, ne-eqb}
 use borrow.Author.Needs.{needs}
+use Rattle.digits.specs.Digits.{rangedOf}
+use Rattle.digits.specs.declared.Number.{Number}
 use Rattle.tags.specs.Slots.{slotOf, marked}
 use Rattle.entries.specs.Entries.{entryInX, said}
 use Rattle.entries.proofs.in_x.Statement.{statement}
 use Rattle.entries.proofs.in_x.Tie as tie
+
+-- 279 is read from 0 to 4
+action-is : (text : List ℕ) {r n : Number} → r ≡ rangedOf 1 0 4 text → r ≡ n → rangedOf 1 0 4 text ≡ n
+action-is text p q = sym p ∙ q
 
 value-requires : tie.Need-value-requires
 value-requires c κs = search needs
@@ -24,7 +32,7 @@ unfolding entryInX said marked slotOf
 returns c =
     rw (
       ← c .before .before .before .value .ensures,
-      sym (c .before .before .ranged .ensures) ∙ c .enum-told .given .1,
+      action-is _ (c .before .before .ranged .ensures) (c .enum-told .given .1),
     )
 
 value-requires-2 : tie.Need-value-requires-2
@@ -44,7 +52,7 @@ unfolding entryInX said marked slotOf
 returns-2 c =
     rw (
       ← c .before .before .before .before .before .before .before .before .value .ensures,
-      sym (c .before .before .before .before .before .before .before .ranged .ensures) ∙ c .before .before .before .before .before .action .given .1,
+      action-is _ (c .before .before .before .before .before .before .before .ranged .ensures) (c .before .before .before .before .before .action .given .1),
       ← c .before .before .before .value2 .ensures,
       sym (c .before .before .sort .ensures) ∙ c .enum-told2 .given .1,
     )
@@ -57,7 +65,7 @@ unfolding entryInX said marked slotOf
 returns-3 c =
     rw (
       ← c .before .before .before .before .before .before .before .before .before .before .before .value .ensures,
-      sym (c .before .before .before .before .before .before .before .before .before .before .ranged .ensures) ∙ c .before .before .before .before .before .before .before .before .action .given .1,
+      action-is _ (c .before .before .before .before .before .before .before .before .before .before .ranged .ensures) (c .before .before .before .before .before .before .before .before .action .given .1),
       ← c .before .before .before .before .before .before .value2 .ensures,
       sym (c .before .before .before .before .before .sort .ensures) ∙ c .before .before .before .sort2 .given .1,
       le-leb _ _ (c .before .if1 .taken),
@@ -71,7 +79,7 @@ unfolding entryInX said marked slotOf
 returns-4 c =
     rw (
       ← c .before .before .before .before .before .before .before .before .before .before .before .before .value .ensures,
-      sym (c .before .before .before .before .before .before .before .before .before .before .before .ranged .ensures) ∙ c .before .before .before .before .before .before .before .before .before .action .given .1,
+      action-is _ (c .before .before .before .before .before .before .before .before .before .before .before .ranged .ensures) (c .before .before .before .before .before .before .before .before .before .action .given .1),
       ← c .before .before .before .before .before .before .before .value2 .ensures,
       sym (c .before .before .before .before .before .before .sort .ensures) ∙ c .before .before .before .before .sort2 .given .1,
       lt-leb _ _ (c .before .before .if1 .left),
@@ -83,7 +91,7 @@ unfolding entryInX said marked slotOf
 returns-5 c =
     rw (
       ← c .before .before .before .before .before .before .before .before .before .before .before .value .ensures,
-      sym (c .before .before .before .before .before .before .before .before .before .before .ranged .ensures) ∙ c .before .before .before .before .before .before .before .before .action .given .1,
+      action-is _ (c .before .before .before .before .before .before .before .before .before .before .ranged .ensures) (c .before .before .before .before .before .before .before .before .action .given .1),
       ← c .before .before .before .before .before .before .value2 .ensures,
       sym (c .before .before .before .before .before .sort .ensures) ∙ c .before .before .before .sort2 .given .1,
       lt-leb _ _ (c .before .if1 .left),
