@@ -1,4 +1,5 @@
-// Lines of answers on standard output, as `replay` writes them.
+// Lines of answers on standard output.
+use crate::record;
 use libc::STDOUT_FILENO;
 
 fn end() {
@@ -27,27 +28,27 @@ fn answered(word: &[u8], answer: u64) {
 }
 
 // The line before a recording.
-pub fn title(name: &[u8]) {
+pub(crate) fn title(name: &[u8]) {
     io::write_all(STDOUT_FILENO, b"recording ");
     io::write_all(STDOUT_FILENO, name);
     end();
 }
 
 // The line of an opening.
-pub fn opened(answer: u64) {
+pub(crate) fn opened(answer: u64) {
     answered(b"open", answer);
     end();
 }
 
 // The line of a feed: the answer and how many wait.
-pub fn fed(answer: u64, waiting: u64) {
+pub(crate) fn fed(answer: u64, waiting: u64) {
     answered(b"feed", answer);
     number(waiting);
     end();
 }
 
 // The line of a quote, a state or a summary: after a 0 its numbers.
-pub fn told(word: &[u8], answer: u64, room: &[u64]) {
+pub(crate) fn told(word: &[u8], answer: u64, room: &[u64]) {
     answered(word, answer);
     if answer == 0 {
         numbers(room);
@@ -56,7 +57,7 @@ pub fn told(word: &[u8], answer: u64, room: &[u64]) {
 }
 
 // The line of a writing: the length, and after a 0 that many bytes.
-pub fn written(answer: u64, length: u64, room: &[u8]) {
+pub(crate) fn written(answer: u64, length: u64, room: &[u8]) {
     answered(b"write", answer);
     number(length);
     if answer == 0 {

@@ -2,8 +2,8 @@
 use borrow.Author.Needs.{needs}
 use Prim.Native.Nat.{_-_, _≤_}
 use lib.ListN.{length}
-use Rattle.lines.proofs.numbers.Statement.{statement}
-use Rattle.lines.proofs.numbers.Tie as tie
+use Rattle.replay.proofs.lines.numbers.Statement.{statement}
+use Rattle.replay.proofs.lines.numbers.Tie as tie
 
 abbrev Inv-loop : tie.InvT-loop
 Inv-loop ns i₀ i = i ≤ length ns

@@ -1,8 +1,8 @@
 -- `number` is safe and ends: eight bytes, the highest first.
 use borrow.Author.Needs.{needs}
 use Prim.Native.Nat.{_≤_}
-use Rattle.record.proofs.number.Statement.{statement}
-use Rattle.record.proofs.number.Tie as tie
+use Rattle.replay.proofs.record.number.Statement.{statement}
+use Rattle.replay.proofs.record.number.Tie as tie
 
 abbrev Inv-loop : tie.InvT-loop
 Inv-loop body at n₀ i₀ n i = i ≤ 8

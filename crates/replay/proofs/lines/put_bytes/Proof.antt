@@ -3,8 +3,8 @@ use borrow.Author.Needs.{needs}
 use Prim.Native.Nat.{_-_, _≤_}
 use mathlib.Core.Path.{_≡_}
 use lib.ListN.{length}
-use Rattle.lines.proofs.put_bytes.Statement.{statement}
-use Rattle.lines.proofs.put_bytes.Tie as tie
+use Rattle.replay.proofs.lines.put_bytes.Statement.{statement}
+use Rattle.replay.proofs.lines.put_bytes.Tie as tie
 
 abbrev Inv-loop : tie.InvT-loop
 Inv-loop line₀ text at₀ i₀ line at i = (i ≤ length text) × (length line ≡ length line₀)

@@ -3,8 +3,8 @@ use borrow.Author.Needs.{needs}
 use Prim.Native.Nat.{_-_, _≤_}
 use mathlib.Core.Path.{_≡_}
 use lib.ListN.{length}
-use Rattle.record.proofs.ids.Statement.{statement}
-use Rattle.record.proofs.ids.Tie as tie
+use Rattle.replay.proofs.record.ids.Statement.{statement}
+use Rattle.replay.proofs.record.ids.Tie as tie
 
 abbrev Inv-loop : tie.InvT-loop
 Inv-loop body ids₀ n i₀ ids i = (i ≤ n) × (n ≤ 32) × (n ≤ length ids₀) × (length ids ≡ length ids₀)

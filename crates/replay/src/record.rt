@@ -1,4 +1,4 @@
-// What stands in the bytes of a record; `replay` says what a record is.
+// What stands in a record's bytes.
 ghost use lib.ListN.{length as ListN·length};
 ghost use Prim.Native.Nat.{_≤_, _<_};
 
@@ -25,7 +25,7 @@ fn least(a: usize, b: usize) -> usize
 }
 
 // The byte at a place.
-pub fn byte(body: &[u8], at: usize) -> u64 {
+pub(crate) fn byte(body: &[u8], at: usize) -> u64 {
     if at < body.len() {
         return wide(body[at]);
     }
@@ -33,7 +33,7 @@ pub fn byte(body: &[u8], at: usize) -> u64 {
 }
 
 // The byte at a place, as a length.
-pub fn length(body: &[u8], at: usize) -> usize
+pub(crate) fn length(body: &[u8], at: usize) -> usize
     ensures { λ r. ⌜ r < 256 ⌝ }
 {
     if at < body.len() {
@@ -43,26 +43,26 @@ pub fn length(body: &[u8], at: usize) -> usize
 }
 
 // How many bytes a record has after its head.
-pub fn size(head: &[u8; 3]) -> usize
+pub(crate) fn size(head: &[u8; 3]) -> usize
     ensures { λ r. ⌜ r < 65536 ⌝ }
 {
     place(head[1]) + 256 * place(head[2])
 }
 
 // The bytes from a place on, n of them or as many as there are.
-pub fn part(body: &[u8], from: usize, n: usize) -> &[u8] {
+pub(crate) fn part(body: &[u8], from: usize, n: usize) -> &[u8] {
     let a = least(from, body.len());
     let e = a + least(n, body.len() - a);
     &body[a..e]
 }
 
 // The first n bytes, or as many as there are.
-pub fn start(s: &[u8], n: u64) -> &[u8] {
+pub(crate) fn start(s: &[u8], n: u64) -> &[u8] {
     part(s, 0, n as usize)
 }
 
 // The number of the 8 bytes from a place on.
-pub fn number(body: &[u8], at: usize) -> u64
+pub(crate) fn number(body: &[u8], at: usize) -> u64
     requires { ⌜ at < 65536 ⌝ }
 {
     let mut n = 0u64;
@@ -75,13 +75,13 @@ pub fn number(body: &[u8], at: usize) -> u64
 }
 
 // The first n numbers, or as many as there are.
-pub fn first(s: &[u64], n: usize) -> &[u64] {
+pub(crate) fn first(s: &[u64], n: usize) -> &[u64] {
     let e = least(n, s.len());
     &s[0..e]
 }
 
 // The SecurityIDs of an opening, and how many.
-pub fn ids(body: &[u8], ids: &mut [u64]) -> usize {
+pub(crate) fn ids(body: &[u8], ids: &mut [u64]) -> usize {
     let n = least(least(body.len() / 8, MOST_IDS), ids.len());
     let mut i = 0usize;
     while i < n {
