@@ -1,4 +1,4 @@
-/* Selkavorn 1.0: keeps the order books of one exchange channel and gives dated quotes.
+/* Selkavorn 1.1: keeps the order books of one exchange channel and gives dated quotes.
  *
  * This is the only header. The functions are proved, and stand in libselkavorn.a (x86-64 Linux).
  * What follows is enough to use them; docs/RULES.md has every rule to the last byte, in sections
@@ -25,6 +25,7 @@
  *              is older than H can be brought up to H. If they would be more, they are let go.
  *   B          the queue holds everything from B + 1 to H. A snapshot serves if S is in B to H.
  *   place      one line of a side, 1 the best; a side holds at most 20.
+ *   recording  bytes that were recorded end to end, with holes and damaged bytes among them.
  *
  * What is read ("Frame", "Fields")
  *   35=X  changes of the books: 34, 52, 268, and entries of 279, 269, 48, 22, 207, 270, 271, 37 or
@@ -58,9 +59,9 @@
  *      repeat carries the time that it had, which is no later. On that evidence use no quote of
  *      this store any more: open it afresh, and let snapshots recover the books.
  *   5. Use a store from one thread at a time. Different stores have nothing in common.
- *   6. Lend runs that do not overlap: store, message, SecurityIDs, names, moments and output. Only
- *      runs that a call does not write may share bytes. A run of numbers starts at a multiple of 8
- *      bytes. Each run has at least as many elements as its count says.
+ *   6. Lend runs that do not overlap: store, message, recording, SecurityIDs, names, moments and
+ *      output. Only runs that a call does not write may share bytes. A run of numbers starts at a
+ *      multiple of 8 bytes. Each run has at least as many elements as its count says.
  *   7. Take "now" from a clock that is right, in the time zone of tag 52, which is UTC. The age of
  *      a quote is no better than that clock.
  *
@@ -78,10 +79,10 @@
  *   snapshot's time. A quote is given for ages of 0 to the limit, both included.
  *
  * What a call costs
- *   Every call but selkavorn_open reads the first 7,168 numbers of the store once, to see that they
+ *   Every call on a store but selkavorn_open reads its first 7,168 numbers once, to see that they
  *   are sound; selkavorn_open writes them once. A feed then takes time by the length of its
- *   message. At most 16,168 bytes of stack were used in any call that was measured, and 24,576 is
- *   the budget. docs/BENCH.md has times.
+ *   message, and selkavorn_salvage by the bytes that it walks. At most 16,168 bytes of stack were
+ *   used in any call that was measured, and 24,576 is the budget. docs/BENCH.md has times.
  *
  * Answers
  *   Every call answers a number of enum selkavorn_answer; selkavorn_feed and selkavorn_write put a
@@ -112,16 +113,19 @@ extern "C" {
 /* The version: of this header and of the archive that it came with. The first number changes when a
  * program that was right may have to change, the second when something is added. */
 #define SELKAVORN_VERSION_MAJOR 1
-#define SELKAVORN_VERSION_MINOR 0
+#define SELKAVORN_VERSION_MINOR 1
 #define SELKAVORN_VERSION_PATCH 0
-#define SELKAVORN_VERSION "1.0.0"
+#define SELKAVORN_VERSION "1.1.0"
 
 #define SELKAVORN_STORE_NUMBERS 7168     /* numbers that a store has at least */
 #define SELKAVORN_QUOTE_NUMBERS 17       /* numbers that a quote writes */
 #define SELKAVORN_STATE_NUMBERS 4        /* numbers that a state writes */
 #define SELKAVORN_BOARD_NUMBERS 5        /* numbers that a board writes */
+#define SELKAVORN_SALVAGE_NUMBERS 5      /* numbers that the walk of a recording needs at least */
+#define SELKAVORN_PIECE_NUMBERS 3        /* numbers that each piece of a recording takes */
 #define SELKAVORN_MOST_INSTRUMENTS 16    /* instruments that a store follows at most */
 #define SELKAVORN_MOST_PLACES 20         /* places that a side holds at most */
+#define SELKAVORN_SHORTEST_MESSAGE 26    /* bytes of the shortest message that a walk finds */
 #define SELKAVORN_LONGEST_MESSAGE 8192   /* bytes of the longest message that is read */
 #define SELKAVORN_SHORTEST_WRITING 104   /* bytes of the shortest message that is written */
 #define SELKAVORN_LONGEST_WRITING 4267   /* bytes of the longest message that is written */
@@ -136,7 +140,7 @@ enum selkavorn_depth {
 
 /* The answer numbers, in the order in which they are checked, and what a caller does on each. */
 enum selkavorn_answer {
-    /* Counted in order; or a quote, writing, state, board or opening is done. Go on. */
+    /* Counted in order; or a quote, writing, state, board, opening or walk is done. Go on. */
     SELKAVORN_DONE = 0,
     /* Counted after a gap: all wait. Give no quote; go on, and see that snapshots come. */
     SELKAVORN_GAP = 1,
@@ -262,6 +266,24 @@ enum selkavorn_board_place {
     SELKAVORN_BOARD_MARKS = 4       /* bit i is 1 if instrument i of the opening, from 0, waits */
 };
 
+/* The numbers of a walk, by their places in the output: two, then SELKAVORN_PIECE_NUMBERS for each
+ * piece. Piece i, from 0, starts at
+ * SELKAVORN_SALVAGE_PIECES + SELKAVORN_PIECE_NUMBERS * i. */
+enum selkavorn_salvage_place {
+    SELKAVORN_SALVAGE_NEXT = 0,  /* the byte to go on at; the recording's length when all is told */
+    SELKAVORN_SALVAGE_COUNT = 1, /* how many pieces follow */
+    SELKAVORN_SALVAGE_PIECES = 2 /* where they begin */
+};
+enum selkavorn_piece_place {
+    SELKAVORN_PIECE_KIND = 0,  /* of enum selkavorn_piece */
+    SELKAVORN_PIECE_START = 1, /* its first byte, from 0, counted from the recording's first */
+    SELKAVORN_PIECE_LENGTH = 2 /* its bytes, at least 1 */
+};
+enum selkavorn_piece {
+    SELKAVORN_PIECE_PASSED = 0, /* bytes at none of which a message is taken */
+    SELKAVORN_PIECE_MESSAGE = 1 /* a message: fed alone, it is answered neither 11 nor 12 */
+};
+
 /* Why an instrument last broke. A gap makes it Waiting and keeps the reason. */
 enum selkavorn_reason {
     SELKAVORN_REASON_NONE = 0,   /* after opening, and after a snapshot is taken */
@@ -323,6 +345,26 @@ uint64_t selkavorn_state(const uint64_t *store, size_t store_n, uint64_t id, uin
  * Answers 0; 17; 18. Writes the first SELKAVORN_BOARD_NUMBERS numbers of out on 0 alone, and never
  * those beyond. The store is only read. It is no quote: it has no price. */
 uint64_t selkavorn_board(const uint64_t *store, size_t store_n, uint64_t *out, size_t out_n);
+
+/* Walks a recording from a byte on and gives its pieces, in order: each whole message, and each run
+ * of bytes that was passed over ("Recordings").
+ *   rec, rec_n  the recording, of any length
+ *   from        the byte to start at, 0 to rec_n
+ *   out, out_n  room for the numbers of enum selkavorn_salvage_place; at least
+ *               SELKAVORN_SALVAGE_NUMBERS of them (shorter is 18), which hold one piece
+ * A message is taken at a byte if some stretch from there on would be answered neither 11 nor 12;
+ * there is at most one, the one that tag 9 names. Otherwise that byte is passed over, and bytes
+ * that are passed over one after another are one run. A message within a message is not looked for.
+ * The pieces from `from` to the end cover every byte once.
+ * Answers 0; 18 if from is above rec_n or the room is short. Writes two numbers and as many pieces
+ * as fit on 0 alone, and none of out beyond them. No piece is cut: where the room is short, call
+ * again with from = out[SELKAVORN_SALVAGE_NEXT], and the pieces of all calls are those of one. That
+ * number is above `from` unless `from` is rec_n.
+ * Where only the front of a recording is at hand: a message that was found stays one, and a byte
+ * was rightly passed over if SELKAVORN_LONGEST_MESSAGE bytes from it on are at hand. Go on from the
+ * first byte of which that is not known, with more behind it, and join the runs that then touch. */
+uint64_t selkavorn_salvage(const uint8_t *rec, size_t rec_n, uint64_t from, uint64_t *out,
+                           size_t out_n);
 
 #ifdef __cplusplus
 }

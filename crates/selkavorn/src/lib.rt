@@ -5,6 +5,7 @@ ghost use Rattle.feed.specs.Feeding.{Fed};
 ghost use Rattle.ask.specs.Ask.{Asked, Stated};
 ghost use Rattle.summary.specs.Summary.{Summed};
 ghost use Rattle.send.specs.Send.{Sent};
+ghost use Rattle.salvage.specs.Rooms.{Salvaged};
 
 // Opens a store for a depth kind (0 order depth, 1 price depth) and SecurityIDs.
 #[no_mangle]
@@ -67,4 +68,12 @@ pub extern "C" fn selkavorn_board(store: &[u64], out: &mut [u64]) -> u64
     ensures { λ r. ⌜ Summed (now (out .entry)) (now (store .entry)) r (now (out .exit)) ⌝ }
 {
     summary::summary(store, out)
+}
+
+// Walks a recording from a byte on, as many pieces as fit in out: the byte to go on at, how many pieces, and three numbers for each.
+#[no_mangle]
+pub extern "C" fn selkavorn_salvage(rec: &[u8], from: u64, out: &mut [u64]) -> u64
+    ensures { λ r. ⌜ Salvaged (now (rec .entry)) from (now (out .entry)) r (now (out .exit)) ⌝ }
+{
+    salvage::walk(rec, from, out)
 }

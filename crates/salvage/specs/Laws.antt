@@ -1,0 +1,73 @@
+-- What is shown of the walk of a recording.
+use Prim.Native.Nat.{ℕ, _+_, _-_, _*_, _≤_, _<_}
+use mathlib.Core.Path.{_≡_}
+use mathlib.Core.List.{List, _∷_, _++_}
+use mathlib.Core.Bool.{true}
+use lib.ListN.{length, getD, take, drop}
+use Rattle.frame.specs.Frames.{frameOf}
+use Rattle.stretch.specs.Stretches.{passes}
+use Rattle.salvage.specs.Pieces.{Piece, Walk, pieces, Tiles, times, apart, Messages, laid, endToEnd, allPass}
+use Rattle.salvage.specs.Rooms.{spanned, given, goOn, cells, told, walkOut, walks, reached, wide, join}
+use Rattle.salvage.specs.Windows.{openFrom, sure}
+
+-- ---- the whole walk
+pub record Whole (rec : List ℕ) (from : ℕ) : Type 0 where
+  -- the pieces are the recording's walk, and it has no other
+  pub walk : Walk rec from (pieces rec from)
+  pub only : (ps : List Piece) → Walk rec from ps → ps ≡ pieces rec from
+  -- they cover the recording exactly once, in order
+  pub tiles : Tiles from (pieces rec from) (length rec)
+  pub once : (q : ℕ) → from ≤ q → q < length rec → times q (pieces rec from) ≡ 1
+  -- no two passed runs touch
+  pub apart : apart (pieces rec from) ≡ true
+  -- and each message is bytes that 11 and 12 do not refuse
+  pub good : Messages (λ p n. passes (frameOf (take n (drop p rec))) ≡ true) (pieces rec from)
+
+abbrev pub WalkIsWhole : Type 0
+WalkIsWhole = (rec : List ℕ) (from : ℕ) → from ≤ length rec → Whole rec from
+
+-- Messages end to end, without holes, are found as they are.
+abbrev pub AllAreFound : Type 0
+AllAreFound = (ms : List (List ℕ)) → allPass ms ≡ true → pieces (endToEnd ms) 0 ≡ laid 0 ms
+
+-- ---- in lent room
+-- A walk goes on inside the recording, and always gets on.
+pub record Step (rec : List ℕ) (from room : ℕ) : Type 0 where
+  pub inside : goOn rec from room ≤ length rec
+  pub on : 5 ≤ room → from < length rec → from < goOn rec from room
+
+abbrev pub WalkGetsOn : Type 0
+WalkGetsOn = (rec : List ℕ) (from room : ℕ) → from ≤ length rec → Step rec from room
+
+-- Walks that go on where the one before says reach the end, in at most as many rooms as there are bytes; joined, they are the one walk.
+abbrev pub EndIsReached : Type 0
+EndIsReached =
+    (rec : List ℕ) (from : ℕ) (rooms : List ℕ) → from ≤ length rec → wide rooms ≡ true → length rec ≤ from + length rooms
+    → reached rec from rooms ≡ length rec
+
+abbrev pub WalksJoined : Type 0
+WalksJoined =
+    (rec : List ℕ) (from : ℕ) (rooms : List ℕ) → from ≤ length rec → reached rec from rooms ≡ length rec → walks rec from rooms ≡ pieces rec from
+
+-- What a walk that is not refused leaves in the room: two numbers, the pieces, and what lay behind them; and the numbers say the pieces.
+pub record Left (rec : List ℕ) (from : ℕ) (room : List ℕ) : Type 0 where
+  pub numbers :
+      walkOut rec from room
+      ≡ (goOn rec from (length room) ∷ length (given rec from (length room)) ∷ cells (given rec from (length room)))
+      ++ drop (2 + 3 * length (given rec from (length room))) room
+  pub says : told (take (3 * getD (walkOut rec from room) 1 0) (drop 2 (walkOut rec from room))) ≡ given rec from (length room)
+
+abbrev pub RoomSays : Type 0
+RoomSays = (rec : List ℕ) (from : ℕ) (room : List ℕ) → from ≤ length rec → 5 ≤ length room → Left rec from room
+
+-- ---- a window at a time
+-- What is sure of a window, joined with the walk of the whole from there on, is the walk of the whole; and where a place is decided the
+-- window gets on.
+pub record Window (w rest : List ℕ) (from : ℕ) : Type 0 where
+  pub joined :
+      join (sure (openFrom w) (pieces w from)) (pieces (w ++ rest) (from + spanned (sure (openFrom w) (pieces w from))))
+      ≡ pieces (w ++ rest) from
+  pub on : from + 8192 ≤ length w → 1 ≤ spanned (sure (openFrom w) (pieces w from))
+
+abbrev pub WindowsJoined : Type 0
+WindowsJoined = (w rest : List ℕ) (from : ℕ) → from ≤ length w → Window w rest from

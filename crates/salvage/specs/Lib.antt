@@ -1,0 +1,4 @@
+pub mod Pieces
+pub mod Rooms
+pub mod Windows
+pub mod Laws
