@@ -3,30 +3,28 @@ use mathlib.Core.Path.{_≡_, refl, sym, ap, _∙_}
 use mathlib.Core.List.{List, [], _∷_, _++_}
 use mathlib.Core.Bool.{Bool, true, false, cond}
 use mathlib.Core.Logic.{_⊎_, inl, inr}
-use Prim.Native.Nat.{ℕ, _+_, _-_, _≤_, _<_}
+use Prim.Native.Nat.{ℕ, zero, suc, _+_, _≤_, _<_}
 use native.Mathlib.Omega.{arith}
 use native.Mathlib.Nat.{add-zero, add-assoc}
-use borrow.Author.Tests.{leb-true, leb-false, ltb-true, ltb-false, le-leb, lt-ltb}
-use lib.Dec.{leb, ltb}
+use borrow.Author.Tests.{leb-true, leb-false, ltb-true, ltb-false, eqb-true, eqb-false}
+use lib.Dec.{leb, ltb, eqb}
 use lib.ListN.{length, drop, length-append, length-drop}
 use Rattle.stretch.specs.Stretches.{taken, stretchAt}
 use Rattle.stretch.specs.Runs.{runOf}
+use Rattle.stretch.specs.Windows.{decided}
 use Rattle.stretch.proofs.Stretching.{taken-stretch, none-taken}
 use Rattle.stretch.proofs.Running.{run-end, run-stop}
-use Rattle.stretch.proofs.Laws.{more-decides}
+use Rattle.stretch.proofs.Laws.{more-keeps}
 use Rattle.salvage.specs.Pieces.{Piece, message, passed, Walk, done, one, run, pieces}
 use Rattle.salvage.specs.Rooms.{spanned, link, join}
-use Rattle.salvage.specs.Windows.{openFrom, sure}
+use Rattle.salvage.specs.Windows.{leading, sure}
 use Rattle.salvage.specs.Laws.{Window, WindowsJoined}
 use Rattle.salvage.proofs.Stepping.{pieces-end, pieces-message, pieces-run}
-use Rattle.salvage.proofs.Walking.{taken-some, walk-is, run-from, run-is}
+use Rattle.salvage.proofs.Walking.{taken-some, walk-is, run-from}
 
 join-message : (p n : ℕ) (ps qs : List Piece) → join (message p n ∷ ps) qs ≡ message p n ∷ join ps qs
 join-message p n [] qs = refl
 join-message p n (x ∷ ps) qs = refl
-
-run-before : {a b : ℕ} {rs : List Piece} (u p n : ℕ) (ps qs : List Piece) → ps ≡ message a b ∷ rs → join (passed p n ∷ sure u ps) qs ≡ passed p n ∷ join (sure u ps) qs
-run-before u p n ps qs e = rw e
 
 -- ---- bytes passed over, and the walk behind them
 module _ (rec : List ℕ) (p k : ℕ) (l : p + k ≤ length rec) (f : (q : ℕ) → p ≤ q → q < p + k → stretchAt rec q ≡ 0) (s : 1 ≤ k) where
@@ -58,82 +56,111 @@ module _ (rec : List ℕ) (p k : ℕ) (l : p + k ≤ length rec) (f : (q : ℕ) 
           let z = pieces-end rec (p + k) e in
           rw z (sym (ends (run-end rec (p + k) e) ∙ rw z))
 
-module _ (w rest : List ℕ) where
-  abbrev u : ℕ
-  u = openFrom w
+-- ---- the places that are decided
+leading-le : (d : ℕ → Bool) (n p : ℕ) → leading d p n ≤ n
+leading-le d zero p = omega arith
+leading-le d (suc n) p = go (d p) (leading-le d n (p + 1))
+  where
+    go : (b : Bool) → leading d (p + 1) n ≤ n → cond b (leading d (p + 1) n + 1) 0 ≤ suc n
+    go true h = omega arith
+    go false h = omega arith
 
+leading-are : (d : ℕ → Bool) (n p q : ℕ) → p ≤ q → q < p + leading d p n → d q ≡ true
+leading-are d zero p q a b = absurd (omega arith)
+leading-are d (suc n) p q a b = go (d p) refl b (ltb p q) refl (leading-are d n (p + 1) q)
+  where
+    go : (c : Bool) → d p ≡ c → q < p + cond c (leading d (p + 1) n + 1) 0 → (e : Bool) → ltb p q ≡ e
+        → (p + 1 ≤ q → q < p + 1 + leading d (p + 1) n → d q ≡ true) → d q ≡ true
+    go true f h true g i = i (omega (arith, ltb-true p q g)) (omega arith)
+    go true f h false g i = let z : q ≡ p = omega (arith, ltb-false p q g) in ap d z ∙ f
+    go false f h e g i = absurd (omega arith)
+
+module _ (w rest : List ℕ) where
   abbrev all : List ℕ
   all = w ++ rest
+
+  abbrev d : ℕ → Bool
+  d = decided w
 
   long : length w ≤ length all
   long = omega (arith, length-append w rest)
 
-  stretch-stays : (p n : ℕ) → taken w p n → stretchAt all p ≡ n
-  stretch-stays p n t =
-      let e : stretchAt w p ≡ n = taken-stretch (drop p w) n t in
-      more-decides w rest p .stays (omega (arith, taken-some (drop p w) n t)) ∙ e
-
   message-stays : (p n : ℕ) → taken w p n → pieces all p ≡ message p n ∷ pieces all (p + n)
-  message-stays p n t = pieces-message all p n (stretch-stays p n t) (taken-some (drop p w) n t)
+  message-stays p n t =
+      let e : stretchAt w p ≡ n = taken-stretch (drop p w) n t in
+      let s = taken-some (drop p w) n t in
+      pieces-message all p n (more-keeps w rest p .stays (omega arith) ∙ e) s
 
   -- a place that is decided, where no message is taken
-  none-stays : (q : ℕ) → q < u → ((m : ℕ) → taken w q m → ⊥) → stretchAt all q ≡ 0
-  none-stays q l f = more-decides w rest q .far (omega arith) ∙ none-taken (drop q w) f
+  none-stays : (q : ℕ) → d q ≡ true → ((m : ℕ) → taken w q m → ⊥) → stretchAt all q ≡ 0
+  none-stays q h f = more-keeps w rest q .decides h ∙ none-taken (drop q w) f
 
-  -- a run that ends before the window does ends at a message
+  -- ---- what comes behind a run
+  end-next : {p : ℕ} {ps : List Piece} → p ≡ length w → Walk w p ps → ps ≡ []
+  end-next e (done z) = refl
+  end-next {p} e (one {n = n} t v) = absurd (omega (arith, taken-some (drop p w) n t, t .inside, length-drop p w))
+  end-next e (run l h f z v) = absurd (omega arith)
+
   message-next : {p : ℕ} {ps : List Piece} (m : ℕ) → taken w p m → Walk w p ps → (n : ℕ) × (qs : List Piece) × (ps ≡ message p n ∷ qs)
   message-next {p} m t (done e) = absurd (omega (arith, taken-some (drop p w) m t, t .inside, length-drop p w))
   message-next m t (one {n = n} {ps = qs} k v) = (n, qs, refl)
   message-next {p} m t (run l h f e v) = absurd (f p m (omega arith) (omega arith) t)
 
-  not-end : (p : ℕ) → p < length w → (p ≡ length w) ⊎ ((m : ℕ) × taken w p m) → (m : ℕ) × taken w p m
-  not-end p l (inl e) = absurd (omega arith)
-  not-end p l (inr t) = t
+  -- a message behind a run, in the window and in the whole
+  run-before : {a b n m : ℕ} {rs ys : List Piece} (p k : ℕ) (ps qs xs : List Piece) → ps ≡ message a b ∷ rs → xs ≡ message n m ∷ ys → join (sure d ps) qs ≡ xs
+      → join (passed p k ∷ sure d ps) qs ≡ link (passed p k) xs
+  run-before p k ps qs xs e f h =
+      let x : join (passed p k ∷ sure d ps) qs ≡ passed p k ∷ join (sure d ps) qs = rw e in
+      let y : link (passed p k) xs ≡ passed p k ∷ xs = rw f in
+      x ∙ ap (λ (r : List Piece). passed p k ∷ r) h ∙ sym y
 
-  sure-joined : {p : ℕ} {ps : List Piece} → Walk w p ps → join (sure u ps) (pieces all (p + spanned (sure u ps))) ≡ pieces all p
+  sure-joined : {p : ℕ} {ps : List Piece} → Walk w p ps → join (sure d ps) (pieces all (p + spanned (sure d ps))) ≡ pieces all p
   sure-joined (done e) = rw add-zero
   sure-joined {p} (one {n = n} {ps = ps} t v) =
-      let i = sure-joined v in
-      join-message p n (sure u ps) (pieces all (p + (n + spanned (sure u ps))))
-      ∙ rw (← add-assoc p n (spanned (sure u ps)), i) (sym (message-stays p n t))
-  sure-joined {p} (run {n = n} {ps = ps} l h f e v) = go (leb (p + n) u) (ltb p u) refl refl (sure-joined v)
+      join-message p n (sure d ps) (pieces all (p + (n + spanned (sure d ps))))
+      ∙ rw (← add-assoc p n (spanned (sure d ps)), sure-joined v) (sym (message-stays p n t))
+  sure-joined {p} (run {n = n} {ps = ps} l h f e v) = go (eqb (leading d p n) n) (eqb (leading d p n) 0) refl refl (sure-joined v)
     where
-      free : (k : ℕ) → k ≤ n → p + k ≤ u → (q : ℕ) → p ≤ q → q < p + k → stretchAt all q ≡ 0
-      free k s t q a b = none-stays q (omega arith) (λ m x. f q m a (omega arith) x)
+      -- the run as far as it is decided
+      linked : 1 ≤ leading d p n → link (passed p (leading d p n)) (pieces all (p + leading d p n)) ≡ pieces all p
+      linked s =
+          let g = leading-le d n p in
+          run-linked all p (leading d p n) (omega (arith, long)) (λ q a b. none-stays q (leading-are d n p q a b) (λ m x. f q m a (omega arith) x)) s
 
-      -- a run that is decided whole
-      decided : p + n ≤ u → join (sure u ps) (pieces all (p + n + spanned (sure u ps))) ≡ pieces all (p + n)
-          → join (passed p n ∷ sure u ps) (pieces all (p + (n + spanned (sure u ps)))) ≡ pieces all p
-      decided t i =
-          let c = not-end (p + n) (omega arith) e in
-          let x = message-next (c .0) (c .1) v in
-          let m = message-stays (p + n) (c .0) (c .1) in
-          let g : runOf (drop p all) ≡ n = run-is all n p (omega (arith, long)) (free n (omega arith) t) (inr (omega (arith, taken-some (drop (p + n) w) (c .0) (c .1), stretch-stays (p + n) (c .0) (c .1)))) in
-          let z : pieces all p ≡ passed p n ∷ pieces all (p + n) = rw g at (pieces-run all p (free n (omega arith) t p (omega arith) (omega arith)) (omega (arith, long))) in
-          run-before u p n ps (pieces all (p + (n + spanned (sure u ps)))) (x .2) ∙ rw (← add-assoc p n (spanned (sure u ps)), i) (sym z)
+      whole : leading d p n ≡ n → (p + n ≡ length w) ⊎ ((m : ℕ) × taken w (p + n) m)
+          → join (sure d ps) (pieces all (p + n + spanned (sure d ps))) ≡ pieces all (p + n)
+          → join (passed p n ∷ sure d ps) (pieces all (p + (n + spanned (sure d ps)))) ≡ pieces all p
+      whole s (inl z) i = rw (end-next z v, add-zero) (rw s at (linked (omega arith)))
+      whole s (inr t) i =
+          let x = message-next (t .0) (t .1) v in
+          run-before p n ps (pieces all (p + (n + spanned (sure d ps)))) (pieces all (p + n)) (x .2) (message-stays (p + n) (t .0) (t .1)) (rw (add-assoc p n (spanned (sure d ps))) at i)
+          ∙ rw s at (linked (omega arith))
 
-      go : (a b : Bool) → leb (p + n) u ≡ a → ltb p u ≡ b → join (sure u ps) (pieces all (p + n + spanned (sure u ps))) ≡ pieces all (p + n)
-          → join (cond a (passed p n ∷ sure u ps) (cond b (passed p (u - p) ∷ []) []))
-          (pieces all (p + spanned (cond a (passed p n ∷ sure u ps) (cond b (passed p (u - p) ∷ []) []))))
+      go : (a b : Bool) → eqb (leading d p n) n ≡ a → eqb (leading d p n) 0 ≡ b → join (sure d ps) (pieces all (p + n + spanned (sure d ps))) ≡ pieces all (p + n)
+          → join (cond a (passed p n ∷ sure d ps) (cond b [] (passed p (leading d p n) ∷ [])))
+            (pieces all (p + spanned (cond a (passed p n ∷ sure d ps) (cond b [] (passed p (leading d p n) ∷ [])))))
           ≡ pieces all p
-      go true b x y i = decided (leb-true (p + n) u x) i
-      go false true x y i =
-          let s : p < u = ltb-true p u y in
-          let g : p + (u - p) ≡ u = omega arith in
-          rw (add-zero) (run-linked all p (u - p) (omega (arith, long)) (free (u - p) (omega (arith, leb-false (p + n) u x)) (omega arith)) (omega arith))
-      go false false x y i = rw add-zero
+      go true b x y i = whole (eqb-true (leading d p n) n x) e i
+      go false true x y i = rw add-zero
+      go false false x y i = rw add-zero (linked (omega (arith, eqb-false (leading d p n) 0 y)))
 
   -- ---- where a place is decided the window gets on
-  sure-some : {p : ℕ} {ps : List Piece} → Walk w p ps → p < u → 1 ≤ spanned (sure u ps)
-  sure-some (done e) l = absurd (omega arith)
-  sure-some {p} (one {n = n} t v) l = omega (arith, taken-some (drop p w) n t)
-  sure-some {p} (run {n = n} {ps = ps} s h f e v) l = go (leb (p + n) u)
+  sure-some : {p : ℕ} {ps : List Piece} → Walk w p ps → p < length w → d p ≡ true → 1 ≤ spanned (sure d ps)
+  sure-some (done e) l h = absurd (omega arith)
+  sure-some {p} (one {n = n} t v) l h = omega (arith, taken-some (drop p w) n t)
+  sure-some {p} (run {n = n} {ps = ps} s i f e v) l h = go (eqb (leading d p n) n) (eqb (leading d p n) 0) refl refl
     where
-      go : (a : Bool) → 1 ≤ spanned (cond a (passed p n ∷ sure u ps) (cond (ltb p u) (passed p (u - p) ∷ []) []))
-      go true = omega arith
-      go false = rw (lt-ltb p u l) (omega arith)
+      some : (n : ℕ) → 1 ≤ n → 1 ≤ leading d p n
+      some zero z = absurd (omega arith)
+      some (suc n) z = rw h (omega arith)
+
+      go : (a b : Bool) → eqb (leading d p n) n ≡ a → eqb (leading d p n) 0 ≡ b
+          → 1 ≤ spanned (cond a (passed p n ∷ sure d ps) (cond b [] (passed p (leading d p n) ∷ [])))
+      go true b x y = omega arith
+      go false true x y = absurd (omega (arith, some n s, eqb-true (leading d p n) 0 y))
+      go false false x y = omega (arith, eqb-false (leading d p n) 0 y)
 
 pub windows-joined : WindowsJoined
 windows-joined w rest from l =
     let v = walk-is w from l in
-    record { joined = sure-joined w rest v; on = λ h. sure-some w rest v (omega arith) }
+    record { joined = sure-joined w rest v; on = sure-some w rest v }

@@ -1,14 +1,15 @@
 -- What is shown of the walk of a recording.
-use Prim.Native.Nat.{ℕ, _+_, _-_, _*_, _≤_, _<_}
+use Prim.Native.Nat.{ℕ, _+_, _*_, _≤_, _<_}
 use mathlib.Core.Path.{_≡_}
 use mathlib.Core.List.{List, _∷_, _++_}
 use mathlib.Core.Bool.{true}
 use lib.ListN.{length, getD, take, drop}
 use Rattle.frame.specs.Frames.{frameOf}
 use Rattle.stretch.specs.Stretches.{passes}
+use Rattle.stretch.specs.Windows.{decided}
 use Rattle.salvage.specs.Pieces.{Piece, Walk, pieces, Tiles, times, apart, Messages, laid, endToEnd, allPass}
 use Rattle.salvage.specs.Rooms.{spanned, given, goOn, cells, told, walkOut, walks, reached, wide, join}
-use Rattle.salvage.specs.Windows.{openFrom, sure}
+use Rattle.salvage.specs.Windows.{sure}
 
 -- ---- the whole walk
 pub record Whole (rec : List ℕ) (from : ℕ) : Type 0 where
@@ -61,13 +62,14 @@ abbrev pub RoomSays : Type 0
 RoomSays = (rec : List ℕ) (from : ℕ) (room : List ℕ) → from ≤ length rec → 5 ≤ length room → Left rec from room
 
 -- ---- a window at a time
--- What is sure of a window, joined with the walk of the whole from there on, is the walk of the whole; and where a place is decided the
--- window gets on.
+-- What is sure of a window, joined with the walk of the whole from there on, is the walk of the whole; and the window gets on where its
+-- first place is decided.
+abbrev pub sureOf : List ℕ → ℕ → List Piece
+sureOf w from = sure (decided w) (pieces w from)
+
 pub record Window (w rest : List ℕ) (from : ℕ) : Type 0 where
-  pub joined :
-      join (sure (openFrom w) (pieces w from)) (pieces (w ++ rest) (from + spanned (sure (openFrom w) (pieces w from))))
-      ≡ pieces (w ++ rest) from
-  pub on : from + 8192 ≤ length w → 1 ≤ spanned (sure (openFrom w) (pieces w from))
+  pub joined : join (sureOf w from) (pieces (w ++ rest) (from + spanned (sureOf w from))) ≡ pieces (w ++ rest) from
+  pub on : from < length w → decided w from ≡ true → 1 ≤ spanned (sureOf w from)
 
 abbrev pub WindowsJoined : Type 0
 WindowsJoined = (w rest : List ℕ) (from : ℕ) → from ≤ length w → Window w rest from

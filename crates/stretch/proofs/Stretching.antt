@@ -1,6 +1,6 @@
 -- At most one stretch is taken at a place, and it is the one that tag 9 names. Assumes nothing.
 use mathlib.Core.Path.{_≡_, refl, sym, ap, _∙_}
-use mathlib.Core.List.{List, _∷_, _++_}
+use mathlib.Core.List.{List, [], _∷_, _++_, append-assoc}
 use mathlib.Core.Bool.{Bool, true, false, cond, _&&_, false≢true}
 use mathlib.Core.Logic.{_⊎_, inl, inr}
 use Prim.Native.Nat.{ℕ, _+_, _-_, _≤_, _<_}
@@ -8,10 +8,10 @@ use native.Mathlib.Omega.{arith}
 use native.Mathlib.Nat.{sub-zero, add-zero}
 use borrow.Author.Tests.{leb-true, leb-false, le-leb}
 use lib.Dec.{leb}
-use lib.ListN.{length, getD, take, drop}
-use lib.Seq.{take-take, take-append-add, length-take-le, getD-take, getD-drop}
+use lib.ListN.{length, getD, take, drop, take-append-drop}
+use lib.Seq.{take-take, take-append-add, length-take-le, getD-drop}
 use Rattle.digits.proofs.Width.{both}
-use Rattle.text.specs.Text.{widthOf, decimal, fixed}
+use Rattle.text.specs.Text.{widthTo, widthOf, decimal, fixed}
 use Rattle.text.proofs.Written.{length-decimal, width-le, width-pos}
 use Rattle.chain.specs.Fields.{Field, field}
 use Rattle.chain.specs.Bytes.{fieldBytes, bytesOf, fair, allFair}
@@ -23,6 +23,7 @@ use Rattle.frame.specs.declared.Framed.{Framed}
 use Rattle.frame.proofs.Well.{Well, tags, nine-fair, whole-is, whole-length, inner-length, count-back}
 use Rattle.frame.proofs.Framing.{Held, frame-cases}
 use Rattle.stretch.specs.Stretches.{passes, Taken, namedOf, ifTaken, stretchOf, stretchAt}
+use Rattle.stretch.specs.Windows.{beginning, agrees}
 
 -- ---- what passes holds but for its type
 good-held : (t : List ℕ) → passes (frameOf t) ≡ true → Held t
@@ -31,6 +32,10 @@ good-held t g = go (frame-cases t)
     go : (frameOf t ≡ Framed.BadFrame) ⊎ Held t → Held t
     go (inl q) = absurd (false≢true (ap passes (sym q) ∙ g))
     go (inr h) = h
+
+nine-digit : decimal 9 ≡ 57 ∷ []
+unfolding decimal widthOf widthTo fixed
+nine-digit = refl
 
 -- ---- and its head names its length
 module _ (t c : List ℕ) (body : List Field) (v : ℕ) (x : Well t c body v) where
@@ -71,6 +76,13 @@ module _ (t c : List ℕ) (body : List Field) (v : ℕ) (x : Well t c body v) wh
       let b : take 10 (take 18 t) ≡ preamble = rw head-at in
       rw (b, head-stands .step, head-stands .text, count-back t c body v x) (omega (arith, whole-length t c body v x))
 
+  abbrev well-rest : List ℕ
+  well-rest = (decimal n ++ (1 ∷ [])) ++ more
+
+  well-begins : t ≡ beginning ++ well-rest
+  unfolding fieldBytes
+  well-begins = whole ∙ rw nine-digit
+
   -- 8 takes 10 bytes, 9 and its number 4, 35 and its type 5, and 10 takes 7
   well-long : 26 ≤ length t
   unfolding widthOf
@@ -83,7 +95,8 @@ pub record Bounds (s : List ℕ) (n : ℕ) : Type 0 where
   pub low : 26 ≤ n
   pub high : n ≤ 8192
   pub name : namedOf (take 18 s) ≡ n
-  pub eight : getD s 0 0 ≡ 56
+  pub rest : List ℕ
+  pub begins : s ≡ beginning ++ rest
 
 pub taken-named : (s : List ℕ) {n : ℕ} → Taken s n → Bounds s n
 taken-named s {n} k =
@@ -96,7 +109,8 @@ taken-named s {n} k =
       low = a;
       high = omega (arith, h .well .short);
       name = ap namedOf (sym w) ∙ well-named t (h .c) (h .body) (h .v) (h .well) ∙ l;
-      eight = sym (getD-take n s 0 0 (omega arith)) ∙ ap (λ (l : List ℕ). getD l 0 0) (whole t (h .c) (h .body) (h .v) (h .well));
+      rest = well-rest t (h .c) (h .body) (h .v) (h .well) ++ drop n s;
+      begins = sym (take-append-drop n s) ∙ ap (λ (l : List ℕ). l ++ drop n s) (well-begins t (h .c) (h .body) (h .v) (h .well)) ∙ append-assoc beginning (well-rest t (h .c) (h .body) (h .v) (h .well)) (drop n s);
     }
 
 -- at most one
@@ -129,7 +143,7 @@ none-taken s f = go (leb 1 (stretchOf s)) refl
 
 -- every message starts with '8'
 pub other-byte : (rec : List ℕ) (p : ℕ) → (getD rec p 0 ≡ 56 → ⊥) → stretchAt rec p ≡ 0
-other-byte rec p f = none-taken (drop p rec) (λ n h. f (rw (getD-drop p rec 0 0, add-zero) at (taken-named (drop p rec) h .eight)))
+other-byte rec p f = none-taken (drop p rec) (λ n h. f (rw (getD-drop p rec 0 0, add-zero) at (ap (λ (l : List ℕ). getD l 0 0) (taken-named (drop p rec) h .begins))))
 
 -- ---- what the code finds
 pub too-short : (s : List ℕ) → length s < 18 → stretchOf s ≡ 0

@@ -1,3 +1,4 @@
 pub mod Stretches
 pub mod Runs
+pub mod Windows
 pub mod Laws
