@@ -5,3 +5,4 @@ pub mod Heard
 pub mod Quotes
 pub mod RoundTrip
 pub mod Refusals
+pub mod Salvage

@@ -1,7 +1,7 @@
 -- A refused call changes neither store nor output. Assumes nothing.
 use mathlib.Core.Path.{_≡_, refl, sym, ap, _∙_}
 use mathlib.Core.Bool.{Bool, true, false, cond, true≢false}
-use mathlib.Core.List.{List, _++_}
+use mathlib.Core.List.{List, _∷_, _++_}
 use Prim.Native.Nat.{ℕ, _%_}
 use native.Mathlib.Nat.{add-mul-mod-self-left}
 use lib.Dec.{leb, eqb}
@@ -21,6 +21,7 @@ use Rattle.ask.specs.Ask.{roomAfter, quoteValues, quoteAnswer, quoteOut, stateW
 use Rattle.ask.proofs.Laws.{refused-carries-zeros}
 use Rattle.summary.specs.Summary.{summaryWords, summaryAnswer, summaryOut}
 use Rattle.send.specs.Send.{Page, message, refusal, sentPage, writtenNumber, pageAnswer, pageOut, sendAnswer, sendOut}
+use Rattle.salvage.specs.Rooms.{given, goOn, cells, refused, walkAnswer, walkOut}
 use Rattle.promises.specs.Refusals.{isDone, RefusalsStay}
 
 -- what is said of the answer is said of what the contract makes it
@@ -72,6 +73,15 @@ write-stays : (id : ℕ) (sender target : List ℕ) (k m : ℕ) (time room xs : 
 unfolding sendAnswer sendOut
 write-stays id sender target k m time room xs = page-stays (sentPage id sender target k m time xs) room
 
+walk-stays : (rec : List ℕ) (from : ℕ) (room : List ℕ) → isDone (walkAnswer rec from room % 256) ≡ false → walkOut rec from room ≡ room
+unfolding walkAnswer walkOut
+walk-stays rec from room = go (refused rec from (length room))
+  where
+    go : (z : Bool) → isDone (cond z 18 0 % 256) ≡ false
+        → cond z room (sets room 0 (goOn rec from (length room) ∷ length (given rec from (length room)) ∷ cells (given rec from (length room)))) ≡ room
+    go true h = refl
+    go false h = absurd (true≢false h)
+
 pub refusals-stay : RefusalsStay
 refusals-stay =
     record {
@@ -81,5 +91,6 @@ refusals-stay =
       writing = λ id sender target k m time room xs r ys o h. o .out ∙ write-stays id sender target k m time room xs (of-answer isDone r _ (o .answer) h);
       stating = λ id room xs r ys o h. o .out ∙ state-stays id room xs (of-answer isDone r _ (o .answer) h);
       summing = λ room xs r ys o h. o .out ∙ summary-stays room xs (of-answer isDone r _ (o .answer) h);
+      salvaging = λ rec from room r ys o h. o .out ∙ walk-stays rec from room (of-answer isDone r _ (o .answer) h);
       zeros = refused-carries-zeros;
     }

@@ -5,3 +5,4 @@ pub mod Marked
 pub mod Quotes
 pub mod RoundTrip
 pub mod Refusals
+pub mod Salvage

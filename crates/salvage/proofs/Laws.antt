@@ -32,7 +32,7 @@ walk-is-whole rec from l =
     }
 
 -- ---- messages end to end
-whole-taken : (m r : List ℕ) → passes (frameOf m) ≡ true → Taken (m ++ r) (length m)
+pub whole-taken : (m r : List ℕ) → passes (frameOf m) ≡ true → Taken (m ++ r) (length m)
 whole-taken m r h = record { inside = omega (arith, length-append m r); good = rw (take-append-seam m r) h }
 
 found-all : (ms : List (List ℕ)) (p : ℕ) → allPass ms ≡ true → walkOf (endToEnd ms) 0 p ≡ laid p ms
