@@ -1,5 +1,5 @@
-// Replays recordings of calls on the six exported functions, and writes a line for each call: its answer, and after a 0 the
-// quote, the state, the summary or the snapshot. The recordings are the files that the arguments name. The lines that must come out are
+// Replays recordings of calls on the seven exported functions, and writes a line for each call: its answer, and after a 0 the
+// quote, the state, the summary, the snapshot or the walk. The recordings are the files that the arguments name. The lines that must come out are
 // written by the second implementation from the same recordings, so a run holds the proved code to an independent one.
 //
 // A recording is a chain of records: a byte that says the kind, two bytes of length (low byte first), and that many bytes.
@@ -11,6 +11,7 @@
 //   B  nothing                                                  summary of the board, in room of 5 numbers
 //   W  SecurityID 8 bytes, k, m, sender's and target's length,
 //      a byte each, then sender, target, time                   writing, in room of 4,267 bytes
+//   R  from 8 bytes, numbers of the room a byte, then the bytes  walk of a recording, in room of so many numbers
 //   D  index 2 bytes, value 8 bytes                             the store's number at the index is set; no line
 //
 // Numbers stand low byte first; a byte that is missing reads as 0. A record that is cut off ends its recording, and so does one
@@ -88,6 +89,24 @@ fn write_into(store: &[u64], body: &[u8], room: &mut [u8]) -> u64 {
     )
 }
 
+// Numbers for a room.
+fn numbers() -> [u64; 256] {
+    [0u64; 256]
+}
+
+// Has a recording walked, in a room of so many numbers.
+fn walk_call(body: &[u8]) {
+    let n = record::length(body, 8);
+    let mut all = numbers();
+    let room = &mut all[..n];
+    let answer = selkavorn::selkavorn_salvage(
+        record::part(body, 9, body.len()),
+        record::number(body, 0),
+        room,
+    );
+    lines::told(b"salvage", answer, room);
+}
+
 // Sets a number of the store.
 fn set_number(store: &mut [u64], body: &[u8]) {
     let at = record::length(body, 0) + 256 * record::length(body, 1);
@@ -96,7 +115,7 @@ fn set_number(store: &mut [u64], body: &[u8]) {
     }
 }
 
-// Does what a record says, and answers whether its kind is one of the seven.
+// Does what a record says, and answers whether its kind is one of the eight.
 fn call(store: &mut [u64], kind: u8, body: &[u8]) -> bool {
     match kind {
         b'O' => open_call(store, body),
@@ -105,6 +124,7 @@ fn call(store: &mut [u64], kind: u8, body: &[u8]) -> bool {
         b'S' => state_call(store, body),
         b'B' => board_call(store),
         b'W' => write_call(store, body),
+        b'R' => walk_call(body),
         b'D' => set_number(store, body),
         _ => return false,
     }

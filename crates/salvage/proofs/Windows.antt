@@ -138,7 +138,7 @@ module _ (w rest : List ℕ) where
 
       go : (a b : Bool) → eqb (leading d p n) n ≡ a → eqb (leading d p n) 0 ≡ b → join (sure d ps) (pieces all (p + n + spanned (sure d ps))) ≡ pieces all (p + n)
           → join (cond a (passed p n ∷ sure d ps) (cond b [] (passed p (leading d p n) ∷ [])))
-            (pieces all (p + spanned (cond a (passed p n ∷ sure d ps) (cond b [] (passed p (leading d p n) ∷ [])))))
+          (pieces all (p + spanned (cond a (passed p n ∷ sure d ps) (cond b [] (passed p (leading d p n) ∷ [])))))
           ≡ pieces all p
       go true b x y i = whole (eqb-true (leading d p n) n x) e i
       go false true x y i = rw add-zero
