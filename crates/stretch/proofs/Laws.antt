@@ -9,7 +9,7 @@ use lib.Dec.{leb, eqb}
 use lib.ListN.{length, drop, length-append, length-drop, drop-of-length-le}
 use lib.Seq.{take-append-le, drop-append-le}
 use Rattle.stretch.specs.Stretches.{Taken, stretchOf, stretchAt}
-use Rattle.stretch.specs.Windows.{beginning, agrees, decided}
+use Rattle.stretch.specs.Windows.{beginning, agrees, longest, decided}
 use Rattle.stretch.specs.Laws.{Only, OneStretch, FoundIsTaken, Kept, MoreKeeps}
 use Rattle.stretch.proofs.Stretching.{taken-named, one-stretch, taken-stretch, stretch-taken, none-taken, too-short}
 
@@ -25,7 +25,7 @@ found-is-taken = stretch-taken
 more-taken : (s rest : List ℕ) (n : ℕ) → Taken s n → Taken (s ++ rest) n
 more-taken s rest n t = record { inside = omega (arith, t .inside, length-append s rest); good = rw (take-append-le n s rest (t .inside)) (t .good) }
 
-more-far : (s rest : List ℕ) → 8192 ≤ length s → stretchOf (s ++ rest) ≡ stretchOf s
+more-far : (s rest : List ℕ) → longest ≤ length s → stretchOf (s ++ rest) ≡ stretchOf s
 more-far s rest l = go (leb 1 (stretchOf (s ++ rest))) refl
   where
     go : (b : Bool) → leb 1 (stretchOf (s ++ rest)) ≡ b → stretchOf (s ++ rest) ≡ stretchOf s
@@ -65,16 +65,16 @@ more-unlike s rest h = unlike (s ++ rest) (agrees-more s rest beginning h) ∙ s
 -- ---- at a place of a window
 module _ (w rest : List ℕ) (p : ℕ) where
   more-decides : p ≤ length w → decided w p ≡ true → stretchAt (w ++ rest) p ≡ stretchAt w p
-  more-decides l = go (leb (p + 8192) (length w)) (agrees (drop p w) beginning) refl refl
+  more-decides l = go (leb (p + longest) (length w)) (agrees (drop p w) beginning) refl refl
     where
-      go : (a b : Bool) → leb (p + 8192) (length w) ≡ a → agrees (drop p w) beginning ≡ b → a || not b ≡ true → stretchAt (w ++ rest) p ≡ stretchAt w p
-      go true b e f h = rw (drop-append-le p w rest l) (more-far (drop p w) rest (rw length-drop (omega (arith, leb-true (p + 8192) (length w) e))))
+      go : (a b : Bool) → leb (p + longest) (length w) ≡ a → agrees (drop p w) beginning ≡ b → a || not b ≡ true → stretchAt (w ++ rest) p ≡ stretchAt w p
+      go true b e f h = rw (drop-append-le p w rest l) (more-far (drop p w) rest (rw length-drop (omega (arith, leb-true (p + longest) (length w) e))))
       go false true e f h = absurd (false≢true h)
       go false false e f h = rw (drop-append-le p w rest l) (more-unlike (drop p w) rest f)
 
   -- past its end nothing is decided, and nothing is found
   open-past : length w < p → decided w p ≡ false
-  open-past l = rw (drop-of-length-le w {i = p} (omega arith), lt-leb (p + 8192) (length w) (omega arith))
+  open-past l = rw (drop-of-length-le w {i = p} (omega arith), lt-leb (p + longest) (length w) (omega arith))
 
   none-past : length w < p → stretchAt w p ≡ 0
   none-past l = too-short (drop p w) (rw length-drop (omega arith))

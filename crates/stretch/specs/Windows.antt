@@ -16,7 +16,11 @@ agrees [] ys = true
 agrees (x ∷ xs) [] = true
 agrees (x ∷ xs) (y ∷ ys) = eqb x y && agrees xs ys
 
--- Whether a message is taken at a place is decided if 8,192 bytes from it on are at hand, since no stretch has more, or if those at
--- hand do not begin as a message does.
+-- no stretch has more bytes
+abbrev pub longest : ℕ
+longest = 8192
+
+-- Whether a message is taken at a place is decided if so many bytes from it on are at hand, or if those at hand do not begin as a
+-- message does.
 abbrev pub decided : List ℕ → ℕ → Bool
-decided w p = leb (p + 8192) (length w) || not (agrees (drop p w) beginning)
+decided w p = leb (p + longest) (length w) || not (agrees (drop p w) beginning)
