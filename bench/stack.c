@@ -209,7 +209,7 @@ static void show_all_followed(void)
     show("state", state, "Waiting", SELKAVORN_DONE);
 }
 
-/* Recordings: none, one message, the same with a wrong sum, and the same damaged at its end. */
+/* Recordings of no bytes, of one message, of a part of it, and of one with a wrong sum. */
 static void show_recordings(void)
 {
     message_bytes = 0;
