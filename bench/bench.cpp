@@ -172,8 +172,8 @@ void check_books(const Case &c, const Start &s, Store store, plain_board plain, 
     check_same(c, store, "the plain board", seen(plain));
 }
 
-// Whether the scan finds the store sound: every call of the library scans it before all else, and a state that is given no room
-// is refused right after.
+// Whether the scan finds the store sound: every call on a store scans it before all else, and a state that is given no room is
+// refused right after.
 bool scan(const uint64_t *store) {
     return selkavorn_state(store, SELKAVORN_STORE_NUMBERS, 1, nullptr, 0) == SELKAVORN_ARGUMENT;
 }

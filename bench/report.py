@@ -71,8 +71,8 @@ NOTES = """\
   message stays whole; one in 1,000 leaves most. `walk` is `selkavorn_salvage` from the first byte to the last, with room for 1,024
   pieces that is lent again and again. Beside it QuickFIX parses each message of the whole recording, which it is handed one by one:
   it has none to find. False starts are made to be costly, and have no aim: they stand as dense as they can, at most 22 bytes apart,
-  and each names a stretch up to the next of the trailers, which stand 8,192 bytes apart and have a wrong sum, so that each stretch is
-  read to its end before it is refused.
+  and each names a stretch up to the next of the trailers, which stand as far apart as the longest message is long and have a wrong
+  sum, so that each stretch is read to its end before it is refused.
 - Before a walk is timed, its pieces are compared one by one, in kind, place and length, with those of a walk that asks the plain
   reader at each byte, and must cover the recording; when it is timed, their number is compared.
 - The store starts at an address that 64 divides, as a line of the cache does (`bench/store.hpp`). A time depends on where in
@@ -81,10 +81,10 @@ NOTES = """\
   the scan where the queue is full took a fifth more on a Neoverse-N1.
 - A time is the processor's time of the thread, by round, divided by the calls of the round; the rounds of the rows take turns, and
   each is done once before it is timed, so that what it needs is in the caches, as far as they hold it. Recordings have a third of the
-  rounds. A repetition is a run of the program, with addresses
-  of its own, and its time is the mean of the middle half of its rounds. A table has the median of the repetitions, the lowest and
-  the highest of them, and how far those lie apart. A run in which that is above {most} in any row that is timed is not kept, unless
-  it is asked for; what lies beyond the scan is a difference of two such rows.
+  rounds. A repetition is a run of the program, with addresses of its own, and its time is the mean of the middle half of its rounds. A
+  table has the median of the repetitions, the lowest and the highest of them, and how far those lie apart. A run in which that is
+  above {most} in any row that is timed is not kept, unless it is asked for; what lies beyond the scan is a difference of two such
+  rows.
 - Instructions are those that callgrind counts in one round, on the same machine; for a recording, in a shorter one of the same
   kind, of some 262,000 bytes.
 - A call's stack is the deepest byte that it wrote below its caller's frame, in the calls of `bench/stack.c`. It is measured, not a
@@ -264,7 +264,7 @@ def measured(runs):
         yield f"## Time of one message, {state}, ns\n"
         yield times(runs, waiting)
     yield "## The other calls\n"
-    yield "On full books, none waiting; each call of the library scans the store, but open.\n"
+    yield "On full books, none waiting; each call on a store scans it, but open.\n"
     yield others(runs)
     yield "## The walk of a recording\n"
     yield ("A time is of one message that was recorded, or of one false start: that of the whole walk divided by how many there are. "
