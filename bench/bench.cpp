@@ -1,6 +1,7 @@
 // bench time DICTIONARY ROUNDS: the time of one call, the proved code beside its peers on the same bytes in the same run.
 // bench count DICTIONARY [FEW]: the same calls once each, for callgrind to count their instructions; with FEW, of few cases.
 // bench agree: whether the plain reader in C answers what the proved code does; says how often each answer came.
+// bench recordings: whether it finds the same pieces in each recording; says what the recordings hold.
 // `time` writes a table of tab-separated columns; a call of `count` is named in callgrind's own file by the same columns.
 #include <algorithm>
 #include <cstdio>
@@ -14,10 +15,12 @@
 #include "loop.h"
 #include "peer.hpp"
 #include "plain.h"
+#include "recordings.hpp"
 #include "same.hpp"
 #include "selkavorn.h"
 #include "store.hpp"
 #include "streams.hpp"
+#include "walk.hpp"
 
 namespace {
 
@@ -26,6 +29,11 @@ constexpr int QUEUE = 256;         // entries that fill the queue
 constexpr int CALLS_A_ROUND = 256; // of a call that takes no stream
 constexpr size_t COPIES = 31;      // of a store, at places of their own in memory; a round takes two, so all have their turn
 constexpr int AGREED = 10000;      // messages that both readers are asked, a depth kind
+
+constexpr size_t RECORDED_BYTES = 8 << 20; // of a recording that is timed: more than a usual second-level cache holds
+constexpr size_t COUNTED_BYTES = 1 << 18;  // of one whose instructions are counted
+constexpr size_t STARTS_BYTES = 1 << 18;   // of false starts
+constexpr int ROUNDS_FOR_ONE = 3;          // of the other calls, for one round of a recording, which takes longer
 
 [[noreturn]] void fail(const std::string &what) {
     std::fprintf(stderr, "bench: %s\n", what.c_str());
@@ -164,8 +172,8 @@ void check_books(const Case &c, const Start &s, Store store, plain_board plain, 
     check_same(c, store, "the plain board", seen(plain));
 }
 
-// Whether the scan finds the store sound: every call of the library scans it before all else, and a state that is given no room
-// is refused right after.
+// Whether the scan finds the store sound: every call on a store scans it before all else, and a state that is given no room is
+// refused right after.
 bool scan(const uint64_t *store) {
     return selkavorn_state(store, SELKAVORN_STORE_NUMBERS, 1, nullptr, 0) == SELKAVORN_ARGUMENT;
 }
@@ -287,6 +295,56 @@ void measure_scans(const Measure &measure) {
     measure(all);
 }
 
+// A recording as it is walked: as it was recorded, or with one byte in 1,000 or in 10 damaged.
+struct Walked {
+    const char *what;
+    std::string bytes;
+};
+
+std::vector<Walked> walked(const Recording &r) {
+    return {{"salvage", r.bytes},
+            {"salvage, 1 byte in 1000 damaged", damaged(r.bytes, 1000)},
+            {"salvage, 1 byte in 10 damaged", damaged(r.bytes, 10)}};
+}
+
+// The pieces of a recording, which must be those that the plain reader finds.
+Pieces checked(const Recording &r, const Walked &w) {
+    Pieces pieces = walk(w.bytes);
+    const std::string differs = difference(pieces, plain_walk(w.bytes), w.bytes.size());
+    if (!differs.empty()) fail("the walk of " + r.name + ", " + w.what + ", differs from the plain one: " + differs);
+    return pieces;
+}
+
+std::string columns(const Recording &r, const char *what) { return "recording\t" + r.name + "\t" + what; }
+
+Measured measured_walk(const Recording &r, const Walked &w) {
+    const size_t pieces = checked(r, w).size();
+    return {columns(r, w.what), r.messages.size(), [] {}, [&w, pieces] { return walk_count(w.bytes) == pieces; }, {}};
+}
+
+// The walk of messages end to end, whole and damaged, beside QuickFIX's parse of each.
+void measure_recording(const Recording &r, const FIX::DataDictionary &dictionary, const Measure &measure) {
+    const std::vector<Walked> ways = walked(r);
+    std::vector<Measured> all;
+    for (const Walked &w : ways) all.push_back(measured_walk(r, w));
+    all.push_back({columns(r, "parse"), r.messages.size(), [] {},
+                   for_each(r.messages, [&](const std::string &m) { return peer_read(dictionary, m); }), {}});
+    measure(all);
+}
+
+void measure_starts(const Measure &measure) {
+    const Recording r = false_starts(STARTS_BYTES);
+    const Walked w = {"salvage", r.bytes};
+    std::vector<Measured> all = {measured_walk(r, w)};
+    measure(all);
+}
+
+void measure_recordings(size_t bytes, const FIX::DataDictionary &dictionary, const Measure &measure) {
+    measure_recording(even_recording(bytes), dictionary, measure);
+    measure_recording(mixed_recording(bytes), dictionary, measure);
+    measure_starts(measure);
+}
+
 void do_round(Measured &m) {
     if (!m.round()) fail("a call went wrong: " + m.what);
 }
@@ -349,6 +407,27 @@ void agree() {
     }
 }
 
+// Prints a row of a recording: its bytes, the messages that were recorded, those that are found, the runs and their bytes.
+void describe(const Recording &r, const Walked &w) {
+    size_t found = 0, runs = 0, passed = 0;
+    for (const Piece &p : checked(r, w)) {
+        const bool is_message = p.kind == SELKAVORN_PIECE_MESSAGE;
+        found += is_message;
+        runs += !is_message;
+        passed += is_message ? 0 : p.length;
+    }
+    std::printf("%s\t%s\t%zu\t%zu\t%zu\t%zu\t%zu\n", r.name.c_str(), w.what, w.bytes.size(), r.messages.size(), found, runs,
+                passed);
+}
+
+// Fails where a walk finds other pieces than the plain reader.
+void recordings() {
+    for (const Recording &r : {even_recording(RECORDED_BYTES), mixed_recording(RECORDED_BYTES)})
+        for (const Walked &w : walked(r)) describe(r, w);
+    const Recording starts = false_starts(STARTS_BYTES);
+    describe(starts, {"salvage", starts.bytes});
+}
+
 } // namespace
 
 int main(int argc, char **argv) {
@@ -357,10 +436,18 @@ int main(int argc, char **argv) {
         agree();
         return 0;
     }
+    if (how == "recordings" && argc == 2) {
+        recordings();
+        return 0;
+    }
     const int rounds = how == "time" && argc == 4 ? std::atoi(argv[3]) : 0;
     const bool count = how == "count" && (argc == 3 || argc == 4), few = argc == 4;
-    if (rounds <= 0 && !count) fail("usage: bench time DICTIONARY ROUNDS, bench count DICTIONARY [FEW], or bench agree");
+    if (rounds <= 0 && !count)
+        fail("usage: bench time DICTIONARY ROUNDS, bench count DICTIONARY [FEW], bench agree, or bench recordings");
     const Measure measure = [&](std::vector<Measured> &all) { count ? count_all(all) : time_all(all, rounds); };
+    const Measure seldom = [&](std::vector<Measured> &all) {
+        count ? count_all(all) : time_all(all, (rounds + ROUNDS_FOR_ONE - 1) / ROUNDS_FOR_ONE);
+    };
     FIX::DataDictionary dictionary(argv[2]);
     if (count && few) {
         for (int entries : {1, 10}) measure_case({ORDER_DEPTH, entries, 0}, dictionary, measure);
@@ -371,4 +458,5 @@ int main(int argc, char **argv) {
             for (int entries : {1, 4, 10, 64}) measure_case({depth, entries, waiting}, dictionary, measure);
     for (Depth depth : {ORDER_DEPTH, PRICE_DEPTH}) measure_others(depth, dictionary, measure);
     measure_scans(measure);
+    measure_recordings(count ? COUNTED_BYTES : RECORDED_BYTES, dictionary, seldom);
 }

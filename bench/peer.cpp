@@ -83,6 +83,11 @@ bool peer_parse(const FIX::DataDictionary &dictionary, const std::string &bytes)
     return message.isSetField(tag::NoMDEntries);
 }
 
+bool peer_read(const FIX::DataDictionary &dictionary, const std::string &bytes) {
+    FIX::Message message(bytes, dictionary, true);
+    return message.getHeader().isSetField(tag::MsgType);
+}
+
 bool peer_validate(const FIX::DataDictionary &dictionary, const std::string &bytes) {
     FIX::Message message(bytes, dictionary, true);
     dictionary.validate(message);

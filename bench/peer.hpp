@@ -31,6 +31,9 @@ struct PeerBoard {
 // Reads a message: the chain of fields, length and checksum, the group by the dictionary.
 bool peer_parse(const FIX::DataDictionary &dictionary, const std::string &bytes);
 
+// The same, of a message of any type: one without a group too.
+bool peer_read(const FIX::DataDictionary &dictionary, const std::string &bytes);
+
 // And validates it by the dictionary.
 bool peer_validate(const FIX::DataDictionary &dictionary, const std::string &bytes);
 

@@ -3,9 +3,10 @@
 aim is met."""
 import sys
 
-from results import DEPTHS, MACHINES, MOST_SPREAD, SCANS, STATES, Case, cases, load, median, message_name, row_name, spread
+from results import (DEPTHS, EVEN, MACHINES, MIXED, MOST_SPREAD, SCANS, STARTS, STATES, Case, cases, load, median, message_name,
+                     row_name, spread)
 
-CALLS = ("open", "feed", "quote", "write", "state", "board")
+CALLS = ("open", "feed", "quote", "write", "state", "board", "salvage")
 MOST_STACK = 24576  # bytes
 
 # Aims on times, where none waits: what each says, of which cases, what is compared, and whether a ratio is good.
@@ -17,6 +18,8 @@ AIMS = (
      lambda waiting: [case for case in cases(waiting) if case.entries == 1], "feed", "parse", lambda ratio: ratio < 1.0),
     ("feeding 10 entries takes under 0.4 of QuickFIX with its book",
      lambda waiting: [case for case in cases(waiting) if case.entries == 10], "feed", "book", lambda ratio: ratio < 0.4),
+    ("the walk of a whole recording takes at most 0.2 of QuickFIX's parse",
+     lambda waiting: [EVEN, MIXED] if waiting == 0 else [], "salvage", "parse", lambda ratio: ratio <= 0.2),
 )
 STACK_AIM = f"the deepest stack is under {MOST_STACK:,} bytes"
 
@@ -33,6 +36,12 @@ OTHER_ROWS = (("open", "open, 16 instruments"), ("snapshot", "feed, a snapshot o
 SCAN_ROWS = (("scan", "scan, order ids of 10 bytes"), ("mixed scan", "scan, order ids of 5 and of 10 bytes"),
              ("loop", "bare loop, sixteen numbers at a time: the floor"), ("plain loop", "bare loop, one number after the other"),
              ("scalar loop", "bare loop, one number to an instruction"))
+WALK_ROWS = (("salvage", "walk"), ("salvage, 1 byte in 1000 damaged", "walk, 1 byte in 1,000 damaged"),
+             ("salvage, 1 byte in 10 damaged", "walk, 1 byte in 10 damaged"), ("parse", "QuickFIX: parse of each message"))
+# What a recording holds, and what its rows are.
+RECORDINGS = ((EVEN, "X of 1 entry, {bytes:,} bytes, {messages:,} messages", WALK_ROWS),
+              (MIXED, "mixed, {bytes:,} bytes, {messages:,} messages", WALK_ROWS),
+              (STARTS, "false starts, {bytes:,} bytes, {messages:,} starts", WALK_ROWS[:1]))
 
 NOTES = """\
 - The messages are made by `bench/streams.cpp`, the same in every run: 16 instruments, all followed; entries of type X that
@@ -56,16 +65,28 @@ NOTES = """\
   queue is compared too. Before anything is timed, the plain reader is asked 20,000 messages, many lost, repeated or harmed: it
   must give the same answer to each, every answer of a feed must come, and the books must stay the same. The run fails where
   anything differs.
+- A recording (`bench/recordings.cpp`) is messages of such streams end to end, at order depth, the same in every run: X of 1 entry
+  alone; or mixed, with, of 16 messages on average, ten X of 1 entry, three of 4, one of 10, a heartbeat and a snapshot of 40 entries.
+  Both are longer than a usual second-level cache. A damaged byte is replaced by a drawn one. Where that is one in 10, next to no
+  message stays whole; one in 1,000 leaves most. `walk` is `selkavorn_salvage` from the first byte to the last, with room for 1,024
+  pieces that is lent again and again. Beside it QuickFIX parses each message of the whole recording, which it is handed one by one:
+  it has none to find. False starts are made to be costly, and have no aim: they stand as dense as they can, at most 22 bytes apart,
+  and each names a stretch up to the next of the trailers, which stand as far apart as the longest message is long and have a wrong
+  sum, so that each stretch is read to its end before it is refused.
+- Before a walk is timed, its pieces are compared one by one, in kind, place and length, with those of a walk that asks the plain
+  reader at each byte, and must cover the recording; when it is timed, their number is compared.
 - The store starts at an address that 64 divides, as a line of the cache does (`bench/store.hpp`). A time depends on where in
   memory it lies, so each round takes another of 31 copies; a scan and its loop have the same one. The proved code starts at such an
   address too (`bench/align.c`), so that builds of the bench compare. In another program it may lie less well: in a build without that
   the scan where the queue is full took a fifth more on a Neoverse-N1.
 - A time is the processor's time of the thread, by round, divided by the calls of the round; the rounds of the rows take turns, and
-  each is done once before it is timed, so that what it needs is in the caches. A repetition is a run of the program, with addresses
-  of its own, and its time is the mean of the middle half of its rounds. A table has the median of the repetitions, the lowest and
-  the highest of them, and how far those lie apart. A run in which that is above {most} in any row that is timed is not kept, unless
-  it is asked for; what lies beyond the scan is a difference of two such rows.
-- Instructions are those that callgrind counts in one round, on the same machine.
+  each is done once before it is timed, so that what it needs is in the caches, as far as they hold it. Recordings have a third of the
+  rounds. A repetition is a run of the program, with addresses of its own, and its time is the mean of the middle half of its rounds. A
+  table has the median of the repetitions, the lowest and the highest of them, and how far those lie apart. A run in which that is
+  above {most} in any row that is timed is not kept, unless it is asked for; what lies beyond the scan is a difference of two such
+  rows.
+- Instructions are those that callgrind counts in one round, on the same machine; for a recording, in a shorter one of the same
+  kind, of some 262,000 bytes.
 - A call's stack is the deepest byte that it wrote below its caller's frame, in the calls of `bench/stack.c`. It is measured, not a
   bound.
 - The proved code is compiled by the Rattle kit at -O3, without options for one processor. On x86-64 it is the archive that users
@@ -140,6 +161,25 @@ def others(runs):
     for what, meaning in SCAN_ROWS:
         rows.append([f"order depth: {meaning}"] + [cell for run in runs for cell in figures(run, SCANS, what)])
     return table(["call"] + of_machines(runs, "ns", "lowest to highest", "instructions"), rows)
+
+
+def walk_figures(run, recording, what):
+    """The cells of a walk, or of its peer, on one machine: speed, time, span, instructions, and its share of the parse."""
+    shares = ratio(run.ratios(recording, what, "parse")) if (recording, "parse") in run.times and what != "parse" else "-"
+    return [number(median(run.speeds(recording, what)))] + figures(run, recording, what) + [shares]
+
+
+def walks(runs):
+    rows = []
+    for recording, meaning, whats in RECORDINGS:
+        name = meaning.format(**runs[0].recordings[recording, "salvage"])
+        for what, words in whats:
+            held = runs[0].recordings.get((recording, what))
+            found = number(held["found"] if held else None)
+            rows.append([name, words, found] + [cell for run in runs for cell in walk_figures(run, recording, what)])
+            name = ""
+    heads = of_machines(runs, "MB/s", "ns a message", "lowest to highest", "instructions", "walk / parse")
+    return table(["recording", "", "messages found"] + heads, rows, 2)
 
 
 def of_machine(runs, machine, what):
@@ -224,8 +264,12 @@ def measured(runs):
         yield f"## Time of one message, {state}, ns\n"
         yield times(runs, waiting)
     yield "## The other calls\n"
-    yield "On full books, none waiting; each call of the library scans the store, but open.\n"
+    yield "On full books, none waiting; each call on a store scans it, but open.\n"
     yield others(runs)
+    yield "## The walk of a recording\n"
+    yield ("A time is of one message that was recorded, or of one false start: that of the whole walk divided by how many there are. "
+           "MB/s are millions of bytes of the recording a second.\n")
+    yield walks(runs)
     yield "## Stack of a call, bytes\n"
     yield stacks(runs)
     yield "## Code of the archive, bytes\n"

@@ -13,6 +13,10 @@ MOST_SPREAD = 0.10
 Case = namedtuple("Case", "depth entries waiting")
 SCANS = Case("order", 0, 0)
 
+# A recording by its name. Its times are of one message that was recorded, found or not.
+Recording = namedtuple("Recording", "name")
+EVEN, MIXED, STARTS = Recording("even"), Recording("mixed"), Recording("false starts")
+
 
 def cases(waiting):
     return [Case(depth, entries, waiting) for depth in DEPTHS for entries in ENTRIES]
@@ -33,10 +37,17 @@ class Run:
         self.stacks, self.sizes = kept["stacks"], kept["sizes"]
         self.bytes, self.times, self.instructions = {}, {}, {}
         for row in kept["rows"]:
-            case = Case(row["depth"], row["entries"], row["waiting"])
-            self.bytes[case] = max(row["bytes"], self.bytes.get(case, 0))
-            self.times[case, row["what"]] = row["ns"]
-            self.instructions[case, row["what"]] = row["instructions"]
+            of = Recording(row["recording"]) if "recording" in row else self.case(row)
+            self.times[of, row["what"]] = row["ns"]
+            self.instructions[of, row["what"]] = row["instructions"]
+        # A run of a version that walked no recordings has none.
+        self.recordings = {(Recording(row["recording"]), row["what"]): row for row in kept.get("recordings", [])}
+
+    def case(self, row):
+        """The case of a row; notes how long its messages are."""
+        case = Case(row["depth"], row["entries"], row["waiting"])
+        self.bytes[case] = max(row["bytes"], self.bytes.get(case, 0))
+        return case
 
     @property
     def machine(self):
@@ -50,6 +61,11 @@ class Run:
 
     def ratios(self, case, what, other):
         return [ours / theirs for ours, theirs in zip(self.ns(case, what), self.ns(case, other))]
+
+    def speeds(self, recording, what):
+        """Megabytes of a recording a second, in each repetition."""
+        held = self.recordings[recording, "salvage"]
+        return [1000 * held["bytes"] / (ns * held["messages"]) for ns in self.times[recording, what]]
 
     def noisy(self):
         """The rows whose spread is above what a run may have to be kept."""
@@ -67,5 +83,7 @@ def message_name(case):
 
 def row_name(case, what):
     """A row in words; the calls that take no X have no entries."""
+    if isinstance(case, Recording):
+        return f"recording, {case.name}: {what}"
     where = f"{message_name(case)}, {STATES[case.waiting]}" if case.entries else f"{case.depth} depth"
     return f"{where}: {what}"

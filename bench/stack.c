@@ -50,6 +50,14 @@ static void state(void) { answered = selkavorn_state(store, SELKAVORN_STORE_NUMB
 
 static void summary(void) { answered = selkavorn_board(store, SELKAVORN_STORE_NUMBERS, numbers, SELKAVORN_QUOTE_NUMBERS); }
 
+static uint64_t pieces[SELKAVORN_SALVAGE_PIECES + SELKAVORN_PIECE_NUMBERS * 8];
+
+/* Walks the message as a recording. */
+static void salvage(void)
+{
+    answered = selkavorn_salvage((const uint8_t *)message, message_bytes, 0, pieces, sizeof pieces / sizeof *pieces);
+}
+
 static void (*call)(void);
 static volatile uintptr_t caller;
 
@@ -117,8 +125,8 @@ static void say_w(int s)
     }
 }
 
-/* Feeds what was said, with `more` added to its sum. */
-static void show_feed(const char *what, uint64_t answer, unsigned more)
+/* Makes what was said the message, with `more` added to its sum. */
+static void make_message(unsigned more)
 {
     size_t n = (size_t)sprintf(message, "8=FIX.4.4|9=%zu|%s", strlen(fields), fields);
     unsigned sum = more;
@@ -128,7 +136,23 @@ static void show_feed(const char *what, uint64_t answer, unsigned more)
     }
     message_bytes = n + (size_t)sprintf(message + n, "10=%03u\1", sum % 256);
     fields[0] = 0;
+}
+
+/* Feeds what was said, with `more` added to its sum. */
+static void show_feed(const char *what, uint64_t answer, unsigned more)
+{
+    make_message(more);
     show("feed", feed, what, answer);
+}
+
+/* Walks what was said as a recording, which must have so many pieces. */
+static void show_salvage(const char *what, uint64_t count)
+{
+    show("salvage", salvage, what, SELKAVORN_DONE);
+    if (pieces[SELKAVORN_SALVAGE_COUNT] != count) {
+        fprintf(stderr, "stack: salvage, %s: %d pieces, not %d\n", what, (int)pieces[SELKAVORN_SALVAGE_COUNT], (int)count);
+        exit(1);
+    }
 }
 
 /* A store of one instrument: it goes Live, so that none waits, and breaks. */
@@ -185,10 +209,26 @@ static void show_all_followed(void)
     show("state", state, "Waiting", SELKAVORN_DONE);
 }
 
+/* Recordings of no bytes, of one message, of a part of it, and of one with a wrong sum. */
+static void show_recordings(void)
+{
+    message_bytes = 0;
+    show_salvage("no bytes", 0);
+    say_x(1, MOST_ENTRIES, 1, 0);
+    make_message(0);
+    show_salvage("an X of 64", 1);
+    message_bytes--;
+    show_salvage("an X of 64 that is cut short", 1);
+    say_x(1, MOST_ENTRIES, 1, 0);
+    make_message(1);
+    show_salvage("an X of 64 with a wrong checksum", 1);
+}
+
 int main(void)
 {
     for (uint64_t i = 0; i < SELKAVORN_MOST_INSTRUMENTS; i++) ids[i] = FIRST_ID + i;
     show_one_followed();
     show_all_followed();
+    show_recordings();
     return 0;
 }

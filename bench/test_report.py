@@ -3,28 +3,43 @@
 import unittest
 
 from chart import drawing
-from report import judged, page, verdict
-from results import SCANS, STATES, Case, Run, cases, spread
+from report import RECORDINGS, judged, page, verdict
+from results import EVEN, MIXED, SCANS, STARTS, STATES, Case, Recording, Run, cases, row_name, spread
 
 WHATS = ("feed", "scan", "loop", "plain", "parse", "validate", "book")
 OTHERS = ("open", "snapshot", "plain snapshot", "QuickFIX snapshot", "quote", "write", "state")
 SCAN_WHATS = ("scan", "mixed scan", "loop", "plain loop", "scalar loop")
 
 
-def row(case, what, ns):
-    return {**case._asdict(), "bytes": 171, "what": what, "ns": ns, "instructions": None}
+def row(of, what, ns):
+    named = {"recording": of.name} if isinstance(of, Recording) else {**of._asdict(), "bytes": 171}
+    return {**named, "what": what, "ns": ns, "instructions": None}
+
+
+def held(recording, what):
+    """What a recording holds: 1,000 bytes, 10 messages, of which half are found."""
+    return {"recording": recording.name, "what": what, "bytes": 1000, "messages": 10, "found": 5, "runs": 1, "passed": 500}
 
 
 def made(machine="aarch64", version="v1", changed=None):
-    """A run in which every time is 100 ns, but for a feed, which is 200, and those that are changed."""
+    """A run in which every time is 100 ns, but for a feed, which is 200, a walk, which is 20, and those that are changed."""
     keys = [(case, what) for waiting in range(len(STATES)) for case in cases(waiting) for what in WHATS]
     keys += [(Case(depth, 0, 0), what) for depth in ("order", "price") for what in OTHERS]
     keys += [(SCANS, what) for what in SCAN_WHATS if (SCANS, what) not in keys]
+    keys += [(recording, what) for recording, _, whats in RECORDINGS for what, _ in whats]
     facts = {"machine": machine, "processor": "P", "date": "2026-11-15", "version": version, "repetitions": "3", "rounds": "1",
              "compiler": "C", "kit": "K", "quickfix": "Q", "valgrind": "V"}
-    usual = {what: [200.0 if what == "feed" else 100.0] * 3 for _, what in keys}
-    rows = [row(case, what, (changed or {}).get((case, what), usual[what])) for case, what in keys]
-    return Run({"facts": facts, "rows": rows, "stacks": {machine: {"feed": 9}}, "sizes": {machine: {"selkavorn_feed": 7}}})
+    usual = {what: [{"feed": 200.0, "salvage": 20.0}.get(what, 100.0)] * 3 for _, what in keys}
+    rows = [row(of, what, (changed or {}).get((of, what), usual[what])) for of, what in keys]
+    recordings = [held(of, what) for of, what in keys if isinstance(of, Recording) and what != "parse"]
+    return Run({"facts": facts, "rows": rows, "recordings": recordings, "stacks": {machine: {"feed": 9}},
+                "sizes": {machine: {"selkavorn_feed": 7}}})
+
+
+def made_before():
+    """A run of a version that walked no recordings."""
+    facts = {"machine": "aarch64", "date": "2026-11-15", "version": "v0"}
+    return Run({"facts": facts, "rows": [row(SCANS, "scan", [100.0])], "stacks": {}, "sizes": {}})
 
 
 class Report(unittest.TestCase):
@@ -40,7 +55,34 @@ class Report(unittest.TestCase):
         self.assertEqual((worst, met), ("1.16", "met in 23 of 24"))
 
     def test_a_feed_slower_than_its_peers_misses(self):
-        self.assertEqual([met for *_, met in judged(made())], ["met", "met", "MISSED", "MISSED", "met"])
+        self.assertEqual([met for *_, met in judged(made())], ["met", "met", "MISSED", "MISSED", "met", "met"])
+
+    def test_the_walk_is_held_to_the_parse_of_both_recordings(self):
+        slow = made(changed={(MIXED, "salvage"): [20.0, 20.0, 21.0]})
+        says, worst, met = next(aim for aim in judged(slow) if "recording" in aim[0])
+        self.assertIn("at most 0.2 of QuickFIX's parse", says)
+        self.assertEqual((worst, met), (["0.21", "-"], "met in 5 of 6"))
+
+    def test_false_starts_have_no_aim(self):
+        slow = made(changed={(STARTS, "salvage"): [9e9] * 3})
+        self.assertEqual([met for *_, met in judged(slow)], [met for *_, met in judged(made())])
+
+    def test_a_speed_is_of_the_bytes_of_the_whole_recording(self):
+        run = made(changed={(EVEN, "salvage"): [20.0, 25.0, 50.0]})
+        self.assertEqual(run.speeds(EVEN, "salvage"), [5000.0, 4000.0, 2000.0])
+        self.assertEqual(run.speeds(EVEN, "parse"), [1000.0] * 3)
+
+    def test_walks_have_rows_with_the_messages_that_were_found(self):
+        text = "\n".join(page("v1", [made()]))
+        walk = next(line for line in text.splitlines() if line.startswith("| X of 1 entry, 1,000 bytes, 10 messages"))
+        self.assertEqual([cell.strip() for cell in walk.split("|")[2:-1]],
+                         ["walk", "5", "5,000", "20", "20 to 20 (0.0%)", "-", "0.20 (0.20 to 0.20)"])
+        starts = next(line for line in text.splitlines() if line.startswith("| false starts, 1,000 bytes, 10 starts"))
+        self.assertEqual(starts.split("|")[-2].strip(), "-")
+
+    def test_the_spread_of_a_walk_counts(self):
+        noisy = made(changed={(STARTS, "salvage"): [95.0, 100.0, 106.0]}).noisy()
+        self.assertEqual([row_name(of, what) for of, what, _ in noisy], ["recording, false starts: salvage"])
 
     def test_the_spread_is_over_all_repetitions(self):
         self.assertAlmostEqual(spread([95.0, 100.0, 106.0]), 0.11)
@@ -65,6 +107,10 @@ class Report(unittest.TestCase):
         self.assertNotIn("x86_64: ns", text)
         none = "\n".join(page("v3", [made("x86_64", "v1"), made("aarch64", "v2")]))
         self.assertNotIn(": ns", none)
+
+    def test_a_run_from_before_the_walks_is_of_another_version(self):
+        text = "\n".join(page("v1", [made("x86_64"), made_before()]))
+        self.assertIn("**aarch64: no run of this version is kept; the one of 2026-11-15 is of another version.**", text)
 
 
 if __name__ == "__main__":

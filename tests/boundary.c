@@ -2,8 +2,8 @@
  *
  * Every answer number is reached. Around every call the lent runs are watched: a refusal must leave
  * store and output as they were, and nothing may touch the guards around them, what lies beyond a
- * store's 7,168 numbers, or what lies beyond a quote, a state, a summary or a written message. What
- * a call only reads ends where memory that cannot be read begins. */
+ * store's 7,168 numbers, or what lies beyond a quote, a state, a summary, a written message or the
+ * pieces of a recording. What a call only reads ends where memory that cannot be read begins. */
 #define _DEFAULT_SOURCE /* for MAP_ANONYMOUS */
 
 #include <inttypes.h>
@@ -21,8 +21,11 @@ enum {
     STORE_ROOM = 7300,   /* a store larger than it must be */
     BYTES_ROOM = 4400,   /* more than the longest written message */
     MESSAGE_ROOM = 9000, /* more than the longest message that is read */
-    EDGE_ROOM = 1 << 16  /* readable bytes before an edge; a multiple of every usual page */
+    EDGE_ROOM = 1 << 16, /* readable bytes before an edge; a multiple of every usual page */
+    MOST_PIECES = 32,    /* of a recording here */
+    PIECES_ROOM = SELKAVORN_SALVAGE_PIECES + SELKAVORN_PIECE_NUMBERS * MOST_PIECES
 };
+_Static_assert(PIECES_ROOM > SELKAVORN_QUOTE_NUMBERS, "the pieces take the most numbers");
 #define GUARD_NUMBER UINT64_C(0xA5C3A5C3A5C3A5C3)
 #define GUARD_BYTE 0xA5
 
@@ -73,7 +76,7 @@ struct board {
 };
 
 static struct board first, second;
-static uint64_t number_area[GUARD + SELKAVORN_QUOTE_NUMBERS + GUARD];
+static uint64_t number_area[GUARD + PIECES_ROOM + GUARD];
 static uint8_t byte_area[GUARD + BYTES_ROOM + GUARD];
 static uint64_t *const numbers = number_area + GUARD;
 static uint8_t *const bytes = byte_area + GUARD;
@@ -96,7 +99,7 @@ static uint8_t *make_edge(void)
 }
 
 /* What a call only reads is lent as a copy that ends at an edge of its own. */
-enum lent { MESSAGE, IDS, SENDER, TARGET, MOMENT, LENT };
+enum lent { MESSAGE, IDS, SENDER, TARGET, MOMENT, RECORDING, LENT };
 
 static void *lend(enum lent which, const void *run, size_t n)
 {
@@ -118,12 +121,17 @@ static void fresh(struct board *board)
     board->n = STORE_ROOM;
 }
 
-static void before_call(struct board *board)
+static void clear_outputs(void)
 {
-    memcpy(board->before, board->area, sizeof board->area);
     for (size_t i = 0; i < sizeof number_area / sizeof *number_area; i++)
         number_area[i] = GUARD_NUMBER;
     memset(byte_area, GUARD_BYTE, sizeof byte_area);
+}
+
+static void before_call(struct board *board)
+{
+    memcpy(board->before, board->area, sizeof board->area);
+    clear_outputs();
 }
 
 /* The first `may` numbers of the store may differ from before, the others not. */
@@ -149,7 +157,7 @@ static void check_outputs(size_t wrote_numbers, size_t wrote_bytes)
     check(good, "outputs and their guards");
 }
 
-/* ---- the six calls, watched ---- */
+/* ---- the seven calls, watched ---- */
 
 static uint64_t open_board(struct board *board, uint64_t depth, const uint64_t *ids, size_t ids_n)
 {
@@ -238,6 +246,23 @@ static uint64_t write_book(struct board *board, struct writing w)
     return answered;
 }
 
+static uint64_t walk(const uint8_t *recording, size_t n, uint64_t from, size_t room)
+{
+    const uint8_t *lent = lend(RECORDING, recording, n);
+    clear_outputs();
+    uint64_t answer = selkavorn_salvage(lent, n, from, numbers, room);
+    reached[SELKAVORN_ANSWER(answer)] = true;
+    size_t wrote = 0;
+    if (answer == SELKAVORN_DONE) {
+        uint64_t count = numbers[SELKAVORN_SALVAGE_COUNT];
+        check(count <= (room - SELKAVORN_SALVAGE_PIECES) / SELKAVORN_PIECE_NUMBERS, "pieces fit");
+        wrote = SELKAVORN_SALVAGE_PIECES + SELKAVORN_PIECE_NUMBERS * (size_t)count;
+    }
+    check_outputs(wrote, 0);
+    check(n == 0 || memcmp(lent, recording, n) == 0, "the recording is only read");
+    return answer;
+}
+
 /* ---- messages ---- */
 
 static uint8_t message[MESSAGE_ROOM];
@@ -322,6 +347,89 @@ static void make_empties(int number, int entries)
     for (int i = 0; i < entries; i++)
         strcat(text, "279=0|269=J|48=7|22=8|");
     make("35=X|34=%d|" AT "268=%d|%s", number, entries, text);
+}
+
+/* ---- recordings ---- */
+
+struct piece {
+    uint64_t kind, start, length;
+};
+
+/* A recording, and the pieces that a walk of it must find. */
+static uint8_t recording[EDGE_ROOM];
+static size_t recording_n;
+static struct piece pieces[MOST_PIECES];
+static size_t pieces_n;
+
+static void clear_recording(void)
+{
+    recording_n = 0;
+    pieces_n = 0;
+}
+
+/* Records bytes that must be found as a piece of this kind; runs that touch are one piece. */
+static void record(enum selkavorn_piece kind, const void *run, size_t n)
+{
+    bool joins = kind == SELKAVORN_PIECE_PASSED && pieces_n > 0 &&
+                 pieces[pieces_n - 1].kind == SELKAVORN_PIECE_PASSED;
+    if (joins)
+        pieces[pieces_n - 1].length += n;
+    else
+        pieces[pieces_n++] = (struct piece){kind, recording_n, n};
+    memcpy(recording + recording_n, run, n);
+    recording_n += n;
+}
+
+/* Records the message that was made last. */
+static void record_made(enum selkavorn_piece kind)
+{
+    record(kind, message, message_n);
+}
+
+static void record_text(const char *passed_over)
+{
+    record(SELKAVORN_PIECE_PASSED, passed_over, strlen(passed_over));
+}
+
+/* Compares the pieces of the last walk with those from piece `told` on, of which as many as fit the
+ * room must be there; gives how many pieces are then told. */
+static size_t check_pieces(size_t told, size_t room, const char *what)
+{
+    size_t fits = (room - SELKAVORN_SALVAGE_PIECES) / SELKAVORN_PIECE_NUMBERS;
+    size_t count = pieces_n - told < fits ? pieces_n - told : fits;
+    const struct piece *wanted = pieces + told;
+    const uint64_t *got = numbers + SELKAVORN_SALVAGE_PIECES;
+    check_equal(numbers[SELKAVORN_SALVAGE_COUNT], count, what);
+    for (size_t i = 0; i < count; i++, got += SELKAVORN_PIECE_NUMBERS) {
+        check_equal(got[SELKAVORN_PIECE_KIND], wanted[i].kind, what);
+        check_equal(got[SELKAVORN_PIECE_START], wanted[i].start, what);
+        check_equal(got[SELKAVORN_PIECE_LENGTH], wanted[i].length, what);
+    }
+    told += count;
+    check_equal(numbers[SELKAVORN_SALVAGE_NEXT],
+                told < pieces_n ? pieces[told].start : recording_n, what);
+    return told;
+}
+
+/* Walks the recording with this room, as often as it takes. */
+static void check_walks(size_t room, const char *what)
+{
+    uint64_t from = 0;
+    size_t told = 0, before;
+    do {
+        before = told;
+        check_equal(walk(recording, recording_n, from, room), SELKAVORN_DONE, what);
+        told = check_pieces(told, room, what);
+        from = numbers[SELKAVORN_SALVAGE_NEXT];
+    } while (told > before && told < pieces_n);
+    check_equal(from, recording_n, what);
+}
+
+/* Walks the recording at once. */
+static void check_walk(const char *what)
+{
+    check_equal(walk(recording, recording_n, 0, PIECES_ROOM), SELKAVORN_DONE, what);
+    check_pieces(0, PIECES_ROOM, what);
 }
 
 /* ---- the groups ---- */
@@ -727,6 +835,139 @@ static void test_round_trip(void)
     end();
 }
 
+static void test_walk_arguments(void)
+{
+    begin("arguments of a walk");
+    make(HEARTBEAT, 1);
+    const uint64_t n = message_n;
+    const size_t least = SELKAVORN_SALVAGE_NUMBERS;
+    check_equal(walk(message, message_n, n + 1, least), SELKAVORN_ARGUMENT, "above the end");
+    check_equal(walk(message, message_n, UINT64_MAX, least), SELKAVORN_ARGUMENT, "far above it");
+    for (size_t room = 0; room < least; room++) {
+        check_equal(walk(message, message_n, 0, room), SELKAVORN_ARGUMENT, "too little room");
+        check_equal(walk(message, message_n, n, room), SELKAVORN_ARGUMENT, "and nothing to tell");
+        check_equal(walk(message, message_n, n + 1, room), SELKAVORN_ARGUMENT, "both");
+    }
+    check_equal(selkavorn_salvage(message, message_n, 0, NULL, 0), SELKAVORN_ARGUMENT,
+                "no room, NULL");
+    check_equal(walk(message, message_n, n, least), SELKAVORN_DONE, "from the end");
+    check_equal(numbers[SELKAVORN_SALVAGE_NEXT], n, "from the end, to go on there");
+    check_equal(numbers[SELKAVORN_SALVAGE_COUNT], 0, "from the end, no piece");
+    check_equal(walk(NULL, 0, 0, least), SELKAVORN_DONE, "no bytes, NULL");
+    check_equal(numbers[SELKAVORN_SALVAGE_NEXT], 0, "no bytes, to go on at 0");
+    check_equal(numbers[SELKAVORN_SALVAGE_COUNT], 0, "no bytes, no piece");
+    check_equal(walk(NULL, 0, 1, least), SELKAVORN_ARGUMENT, "no bytes, above the end");
+    check_equal(walk(NULL, 0, 0, least - 1), SELKAVORN_ARGUMENT, "no bytes, too little room");
+    end();
+}
+
+/* Records the message that was made last with another sum, so that no message is taken in it. */
+static void record_damaged(void)
+{
+    uint8_t *last = message + message_n - 2;
+    *last = *last == '0' ? '1' : '0';
+    record_made(SELKAVORN_PIECE_PASSED);
+}
+
+/* Records the book of 7 as the first board writes it. */
+static void record_writing(void)
+{
+    struct writing w = {7, "SHED", "YARD", 1, 1, "20250103-13:00:09.000", BYTES_ROOM};
+    open_with_book(&first);
+    size_t n = (size_t)SELKAVORN_LENGTH(write_book(&first, w));
+    record(SELKAVORN_PIECE_MESSAGE, bytes, n);
+}
+
+/* A recording with messages of every sort end to end, holes and damaged ones. */
+static void record_night(void)
+{
+    clear_recording();
+    record_text("bytes of a message before\001");
+    make("35=0|");
+    check_equal(message_n, SELKAVORN_SHORTEST_MESSAGE, "26 bytes are made");
+    record_made(SELKAVORN_PIECE_MESSAGE);
+    make("35=4|34=1|" AT "36=1|");
+    record_made(SELKAVORN_PIECE_MESSAGE);
+    record_text("8");
+    make("35=X|34=1|" AT "268=1|" NEW_BID);
+    record_made(SELKAVORN_PIECE_MESSAGE);
+    make(HEARTBEAT, 2);
+    record_damaged();
+    record(SELKAVORN_PIECE_PASSED, message, message_n - 1);
+    record_text("8=FIX.4.4\0019=5\001");
+    record_writing();
+    make(TEXT, 3, SELKAVORN_LONGEST_MESSAGE - AROUND_TEXT, 0);
+    check_equal(message_n, SELKAVORN_LONGEST_MESSAGE, "8,192 bytes are made");
+    record_made(SELKAVORN_PIECE_MESSAGE);
+    make(TEXT, 3, SELKAVORN_LONGEST_MESSAGE - AROUND_TEXT + 1, 0);
+    record_made(SELKAVORN_PIECE_PASSED);
+    make(HEARTBEAT, 3);
+    record_made(SELKAVORN_PIECE_MESSAGE);
+}
+
+/* Whether a piece of the recording, fed alone, is answered 11 or 12. */
+static bool is_refused(struct piece piece)
+{
+    uint64_t answered = feed_bytes(&second, recording + piece.start, (size_t)piece.length);
+    uint64_t answer = SELKAVORN_ANSWER(answered);
+    return answer == SELKAVORN_FRAME || answer == SELKAVORN_CHECKSUM;
+}
+
+static void test_walk(void)
+{
+    begin("walk");
+    record_night();
+    check_walk("the night at once");
+    for (size_t room = SELKAVORN_SALVAGE_NUMBERS; room <= PIECES_ROOM; room++)
+        check_walks(room, "the night by parts");
+    open_fresh(&second, SELKAVORN_ORDER_DEPTH);
+    for (size_t i = 0; i < pieces_n; i++)
+        check(is_refused(pieces[i]) == (pieces[i].kind == SELKAVORN_PIECE_PASSED),
+              "a message alone is answered neither 11 nor 12");
+    end();
+}
+
+/* A recording that ends within its message is one run. */
+static void test_cut(void)
+{
+    begin("cut recording");
+    make(HEARTBEAT, 1);
+    for (size_t n = 1; n <= message_n; n++) {
+        clear_recording();
+        record(n < message_n ? SELKAVORN_PIECE_PASSED : SELKAVORN_PIECE_MESSAGE, message, n);
+        check_walk("cut short");
+    }
+    record_text("8");
+    check_walk("a byte behind the message");
+    clear_recording();
+    record_text("8=FIX.4.4\0019=99999\00135=0\00110=000\001");
+    check_walk("a length beyond the end");
+    end();
+}
+
+/* A message that holds a whole one among its fields, and another from within a value on, is one
+ * piece; a walk from within sees what lies from there on. */
+static void test_nested(void)
+{
+    char inner[MESSAGE_ROOM / 2];
+    begin("message within a message");
+    make("35=0|");
+    size_t inner_n = message_n;
+    memcpy(inner, message, inner_n);
+    inner[inner_n] = 0;
+    make("35=0|34=1|" AT "%s58=%s", inner, inner);
+    clear_recording();
+    record_made(SELKAVORN_PIECE_MESSAGE);
+    check_walk("the outer one");
+    const size_t trailer = strlen("10=000|"), from = message_n - trailer - inner_n;
+    pieces[0] = (struct piece){SELKAVORN_PIECE_MESSAGE, from, inner_n};
+    pieces[1] = (struct piece){SELKAVORN_PIECE_PASSED, from + inner_n, trailer};
+    pieces_n = 2;
+    check_equal(walk(recording, recording_n, from, PIECES_ROOM), SELKAVORN_DONE, "from within");
+    check_pieces(0, PIECES_ROOM, "the inner one and the outer trailer");
+    end();
+}
+
 static void test_copy(void)
 {
     begin("copy of a store");
@@ -751,6 +992,7 @@ static void test_edges(void)
     uint64_t *quoted = (uint64_t *)(void *)make_edge() - SELKAVORN_QUOTE_NUMBERS;
     uint64_t *stated = (uint64_t *)(void *)make_edge() - SELKAVORN_STATE_NUMBERS;
     uint64_t *summed = (uint64_t *)(void *)make_edge() - SELKAVORN_BOARD_NUMBERS;
+    uint64_t *walked = (uint64_t *)(void *)make_edge() - SELKAVORN_SALVAGE_NUMBERS;
     uint8_t *written = make_edge() - 110;
     const uint8_t *now = lend_text(MOMENT, "20250103-13:00:00");
     begin("store and output at an edge");
@@ -770,6 +1012,9 @@ static void test_edges(void)
                 "state");
     check_equal(selkavorn_board(store, n, summed, SELKAVORN_BOARD_NUMBERS), SELKAVORN_DONE,
                 "summary");
+    check_equal(selkavorn_salvage(lend(RECORDING, message, message_n), message_n, 0, walked,
+                                  SELKAVORN_SALVAGE_NUMBERS),
+                SELKAVORN_DONE, "walk");
     end();
 }
 
@@ -800,6 +1045,10 @@ int main(void)
     test_writing_arguments();
     test_writing();
     test_round_trip();
+    test_walk_arguments();
+    test_walk();
+    test_cut();
+    test_nested();
     test_copy();
     test_edges();
     test_reached();
