@@ -4,3 +4,4 @@ pub mod Filling
 pub mod Joining
 pub mod Windows
 pub mod Laws
+pub mod Cases
