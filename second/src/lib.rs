@@ -13,6 +13,7 @@ pub mod instrument;
 pub mod keeper;
 pub mod message;
 pub mod quote;
+pub mod salvage;
 pub mod writer;
 
 // The archive's store, by docs/DESIGN.md.
