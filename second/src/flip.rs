@@ -127,6 +127,7 @@ flips! {
     BoardRoom4: "a summary of the board has room in 4 numbers",
     SalvageSumNotAsked: "a walk takes a message whatever its sum",
     SalvageTypeAsked: "a walk passes over a message of another type",
+    SalvageFieldsAsked: "a walk passes over a message with bad fields",
     SalvageInnerTaken: "a walk takes a message inside a whole one",
     SalvageEndLost: "a walk loses a message that ends where its recording does",
     SalvageShortestLost: "a walk loses a message of 26 bytes",

@@ -1,9 +1,11 @@
 //! The walk of a recording that holds messages end to end, with holes and bad bytes: each whole
 //! message and each run of bytes that was passed over, in order (document 02, K12).
 
-use crate::answer::{ARGUMENT, CHECKSUM};
+use crate::answer::{ARGUMENT, CHECKSUM, FIELDS, TYPE};
+use crate::book::Depth;
 use crate::flip::{either, on, Flip};
 use crate::frame::{self, SOH};
+use crate::message;
 
 /// The numbers before the results: the byte to go on at, and how many results follow.
 pub const HEAD_NUMBERS: u64 = 2;
@@ -54,9 +56,11 @@ fn trailer_ends(rest: &[u8]) -> impl Iterator<Item = usize> + '_ {
 
 /// Whether 11 and 12 would not refuse these bytes. 13 and 14 are not asked.
 fn is_whole(bytes: &[u8]) -> bool {
-    let types: [&[u8]; 6] = [b"X", b"W", b"0", b"f", b"y", b"B"];
+    let refused = |answer: u64| message::read(bytes, Depth::Order).err() == Some(answer);
     match frame::open(bytes) {
-        Ok(fields) => !on(Flip::SalvageTypeAsked) || types.contains(&fields[2].1),
+        Ok(_) if on(Flip::SalvageTypeAsked) => !refused(TYPE),
+        Ok(_) if on(Flip::SalvageFieldsAsked) => !refused(FIELDS),
+        Ok(_) => true,
         Err(answer) => answer == CHECKSUM && on(Flip::SalvageSumNotAsked),
     }
 }

@@ -25,18 +25,26 @@ impl Generator {
         }
     }
 
-    /// The byte to start at: mostly the first; a piece's first or beside it, any, the end, past it.
+    /// The byte to start at: mostly the first; any, a piece's second or one beside its first, the
+    /// end, past it.
     fn some_from(&mut self, recording: &[u8]) -> u64 {
         let end = recording.len() as u64;
         match self.rng.below(12) {
-            0 | 1 => self.rng.between(0, end),
-            2 => {
-                let starts: Vec<u64> = pieces(recording, 0).iter().map(|piece| piece.start as u64).collect();
-                let start = if starts.is_empty() { 0 } else { *self.rng.pick(&starts) };
-                (start + self.rng.between(0, 2)).saturating_sub(1)
-            }
-            3 => *self.rng.pick(&[end, end, end + 1, end + 2, 1 << 32, u64::MAX]),
+            0 => self.rng.between(0, end),
+            1 | 2 => self.some_start(recording) + 1,
+            3 => (self.some_start(recording) + self.rng.between(0, 2)).saturating_sub(1),
+            4 => *self.rng.pick(&[end, end, end + 1, end + 2, 1 << 32, u64::MAX]),
             _ => 0,
+        }
+    }
+
+    /// The first byte of a piece; 0 where there is none.
+    fn some_start(&mut self, recording: &[u8]) -> u64 {
+        let pieces = pieces(recording, 0);
+        if pieces.is_empty() {
+            0
+        } else {
+            self.rng.pick(&pieces).start as u64
         }
     }
 
