@@ -19,7 +19,7 @@
 
 enum {
     STORE_ROOM = 8192,  /* numbers that a script may lend at most */
-    NUMBER_ROOM = 64,   /* numbers of output that a script may lend at most */
+    NUMBER_ROOM = 512,  /* numbers of output that a script may lend at most */
     BYTE_ROOM = 8192,   /* bytes of output that a script may lend at most */
     GUARD = 64,         /* guard numbers or bytes on each side */
     MOST_IDS = 64,
@@ -400,6 +400,32 @@ static void run_board(char **cursor)
     check_store(0);
 }
 
+/* How many numbers of its room a walk says that it wrote. */
+static size_t walk_numbers(size_t room)
+{
+    const uint64_t most = (room - SELKAVORN_SALVAGE_PIECES) / SELKAVORN_PIECE_NUMBERS;
+    uint64_t count = numbers[SELKAVORN_SALVAGE_COUNT];
+    return SELKAVORN_SALVAGE_PIECES + SELKAVORN_PIECE_NUMBERS * (count < most ? count : most);
+}
+
+static void run_salvage(char **cursor)
+{
+    uint64_t from = next_number(cursor);
+    size_t room = next_length(cursor, NUMBER_ROOM);
+    struct lent recording = next_bytes(cursor, 0);
+    guard_numbers();
+    uint64_t answer = selkavorn_salvage(recording.at, recording.n, from, numbers, room);
+    bool done = answer == SELKAVORN_DONE && room >= SELKAVORN_SALVAGE_NUMBERS;
+    size_t written = done ? walk_numbers(room) : 0;
+    printf("salvage %" PRIu64, answer);
+    print_numbers(written);
+    for (size_t i = written; done && i < room; i++)
+        printf(" 0");
+    check_numbers(written);
+    check_store(0);
+    check_lent(recording);
+}
+
 /* Sets store numbers by a word INDEX=VALUE,INDEX=VALUE,.. */
 static void change_store(char *changes)
 {
@@ -459,7 +485,8 @@ static void run_call(char *cursor)
         void (*run)(char **);
     } calls[] = {{"open", run_open},   {"feed", run_feed},   {"quote", run_quote},
                  {"write", run_write}, {"state", run_state}, {"board", run_board},
-                 {"damage", run_damage}, {"wipe", run_wipe}, {"dump", run_dump}};
+                 {"salvage", run_salvage}, {"damage", run_damage}, {"wipe", run_wipe},
+                 {"dump", run_dump}};
     const char *name = next_word(&cursor);
     for (size_t i = 0; i < sizeof calls / sizeof calls[0]; i++)
         if (strcmp(name, calls[i].name) == 0) {

@@ -1,5 +1,6 @@
 //! The making of calls: a seed gives a script that leads a store through true streams, losses,
-//! bursts, snapshots of every kind, bounds of every field, harm, and questions good and bad.
+//! bursts, snapshots of every kind, bounds of every field, harm, questions good and bad, and
+//! recordings to walk.
 
 mod asks;
 mod bounds;
@@ -10,12 +11,14 @@ mod entries;
 mod exchange;
 mod faults;
 mod harm;
+mod night;
 mod rng;
 mod scramble;
 mod snapshots;
 mod stores;
 mod stream;
 mod values;
+mod walks;
 
 use crate::channel::Channel;
 use crate::keeper::{Keeper, STORE_NUMBERS};
@@ -46,13 +49,14 @@ enum Step {
     Write,
     State,
     Board,
+    Salvage,
     OddStore,
     Damage,
     Reopen,
 }
 
 /// How often each step is taken under each theme; a theme holds for a while.
-const WEIGHTS: [(Step, [u64; 6]); 21] = [
+const WEIGHTS: [(Step, [u64; 6]); 22] = [
     // calm, losses, bursts, bounds, harm, questions
     (Step::Next, [300, 200, 120, 120, 120, 80]),
     (Step::Recover, [60, 120, 40, 60, 60, 40]),
@@ -72,6 +76,7 @@ const WEIGHTS: [(Step, [u64; 6]); 21] = [
     (Step::Write, [40, 30, 30, 40, 30, 120]),
     (Step::State, [40, 50, 40, 30, 30, 70]),
     (Step::Board, [30, 40, 30, 20, 20, 60]),
+    (Step::Salvage, [22, 22, 16, 24, 24, 26]),
     (Step::OddStore, [6, 6, 4, 6, 6, 24]),
     (Step::Damage, [8, 8, 10, 8, 8, 10]),
     (Step::Reopen, [2, 2, 1, 3, 3, 5]),
@@ -177,6 +182,7 @@ impl Generator {
             Step::Write => self.write(),
             Step::State => self.state(),
             Step::Board => self.board(),
+            Step::Salvage => self.salvage(),
             Step::OddStore => self.odd_store(),
             Step::Damage => self.damage(),
             Step::Reopen => self.reopen(),

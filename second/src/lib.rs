@@ -1,4 +1,4 @@
-//! A second keeper of order books, written from document 01 alone, and the program
+//! A second keeper of order books, written from documents 01 and 02 alone, and the program
 //! that makes calls and compares its answers with those of the proved archive.
 
 // The keeper, in the order of document 01.
@@ -13,6 +13,7 @@ pub mod instrument;
 pub mod keeper;
 pub mod message;
 pub mod quote;
+pub mod salvage;
 pub mod writer;
 
 // The archive's store, by docs/DESIGN.md.

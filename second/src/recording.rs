@@ -12,6 +12,7 @@
 //! | `S` | SecurityID 8 bytes | state, in room of 4 numbers |
 //! | `B` | none | summary of the board, in room of 5 numbers |
 //! | `W` | SecurityID 8 bytes, k, m, sender's and target's length (a byte each), sender, target, time | writing, in room of 4,267 bytes |
+//! | `R` | byte to start at 8 bytes, room (a byte), the recording | walk of a recording, in room of so many numbers |
 //! | `D` | index 2 bytes, value 8 bytes | none; the store's number at the index is set |
 //!
 //! A `damage` line becomes a `D` record for each of its changes, its call, and a `D` record for
@@ -86,7 +87,8 @@ fn set_number(index: u64, value: u64, recording: &mut Vec<u8>) -> Option<()> {
     put(b'D', &[&index[..], &value.to_le_bytes()].concat(), recording)
 }
 
-/// The record of a call that lends a store of 7,168 numbers and the room that the program lends.
+/// The record of a call that lends a store of 7,168 numbers, where it lends one, and the room that
+/// the program lends.
 fn record(call: &Call, recording: &mut Vec<u8>) -> Option<()> {
     let byte = |number: u64| u8::try_from(number).ok();
     match call {
@@ -108,6 +110,9 @@ fn record(call: &Call, recording: &mut Vec<u8>) -> Option<()> {
             let lengths = [sender.len(), target.len()].map(|length| byte(length as u64));
             let small = [byte(*k)?, byte(*m)?, lengths[0]?, lengths[1]?];
             put(b'W', &[&id.to_le_bytes(), &small[..], sender, target, time].concat(), recording)
+        }
+        Call::Salvage { from, room, recording: walked } => {
+            put(b'R', &[&from.to_le_bytes()[..], &[byte(*room)?], &walked[..]].concat(), recording)
         }
         _ => None,
     }

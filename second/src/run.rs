@@ -8,6 +8,7 @@
 //! | `write ANSWER LENGTH`, then the bytes after a 0 | writing |
 //! | `state ANSWER`, then 4 numbers after a 0 | state |
 //! | `board ANSWER`, then 5 numbers after a 0 | summary of the board |
+//! | `salvage ANSWER`, then all numbers of the room after a 0, those not written as 0 | walk of a recording |
 //! | `damage`, then the line of its call | a call on a store with numbers changed |
 //! | `wipe` | wipe |
 //! | `dump`, then `INDEX=VALUE` for each store number that isn't zero | dump |
@@ -17,6 +18,7 @@
 use crate::answer::{DONE, GAP, LET_GO, REPLAY_BROKE, TAKEN};
 use crate::keeper::{Keeper, Writing};
 use crate::layout;
+use crate::salvage::salvage;
 use crate::script::{bytes_text, Call};
 
 /// Only 0, 1, 3, 4 and 10 change the store.
@@ -79,6 +81,10 @@ pub fn run_plainly(keeper: &mut Keeper, call: &Call) -> (String, bool) {
         Call::Board { store_n, room } => {
             let outcome = keeper.board(*store_n, *room);
             numbers_line("board", outcome.as_ref().map(|n| &n[..]).map_err(|a| *a))
+        }
+        Call::Salvage { from, room, recording } => {
+            let outcome = salvage(recording, *from, *room);
+            numbers_line("salvage", outcome.as_deref().map_err(|a| *a))
         }
         Call::Damage { changes, call } => format!("damage {}", run_call(&mut damaged(keeper, changes), call)),
         Call::Wipe { value } => {

@@ -8,12 +8,13 @@
 //! | `write STORE_N ID SENDER TARGET K M TIME ROOM` | writing |
 //! | `state STORE_N ID ROOM` | state |
 //! | `board STORE_N ROOM` | summary of the board |
+//! | `salvage FROM ROOM RECORDING` | walk of a recording from byte FROM on; it has no store |
 //! | `damage INDEX=VALUE,INDEX=VALUE,.. CALL` | the call on the store with these numbers set, which are then restored |
 //! | `wipe VALUE` | all 7,168 store numbers set to VALUE, as never opened |
 //! | `dump` | none; the store's numbers are told |
 //!
 //! STORE_N is how many numbers of the store are lent, ROOM how many numbers or bytes of the
-//! output. In bytes `|` is SOH, `\xHH` is the byte HH and `\e` stands for no bytes at all; no
+//! output, of a walk at most 512. In bytes `|` is SOH, `\xHH` is the byte HH and `\e` stands for no bytes at all; no
 //! identifiers at all are `\e` too. Empty lines and lines that begin with `#` are passed over.
 //! The store begins as 7,168 zeros.
 
@@ -58,6 +59,11 @@ pub enum Call {
         store_n: u64,
         room: u64,
     },
+    Salvage {
+        from: u64,
+        room: u64,
+        recording: Vec<u8>,
+    },
     Damage {
         changes: Vec<(u64, u64)>,
         call: Box<Call>,
@@ -67,6 +73,9 @@ pub enum Call {
     },
     Dump,
 }
+
+/// The most numbers that a script lends for a walk.
+pub const MOST_WALK_ROOM: u64 = 512;
 
 /// Bytes as a word of a script line.
 pub fn bytes_text(bytes: &[u8]) -> String {
@@ -136,6 +145,7 @@ impl Call {
             Call::Write { .. } => Some("write"),
             Call::State { .. } => Some("state"),
             Call::Board { .. } => Some("board"),
+            Call::Salvage { .. } => Some("salvage"),
             Call::Damage { call, .. } => call.function(),
             Call::Wipe { .. } | Call::Dump => None,
         }
@@ -156,6 +166,7 @@ impl Call {
             }
             Call::State { store_n, id, room } => format!("state {store_n} {id} {room}"),
             Call::Board { store_n, room } => format!("board {store_n} {room}"),
+            Call::Salvage { from, room, recording } => format!("salvage {from} {room} {}", t(recording)),
             Call::Damage { changes, call } => format!("damage {} {}", changes_text(changes), call.line()),
             Call::Wipe { value } => format!("wipe {value}"),
             Call::Dump => String::from("dump"),
@@ -175,6 +186,7 @@ impl Call {
             "write" => words.write()?,
             "state" => Call::State { store_n: words.number()?, id: words.number()?, room: words.number()? },
             "board" => Call::Board { store_n: words.number()?, room: words.number()? },
+            "salvage" => words.salvage()?,
             "wipe" => Call::Wipe { value: words.number()? },
             "dump" => Call::Dump,
             _ => return None,
@@ -227,6 +239,12 @@ impl<'a> Words<'a> {
             time: self.bytes()?,
             room: self.number()?,
         })
+    }
+
+    fn salvage(&mut self) -> Option<Call> {
+        let from = self.number()?;
+        let room = self.number().filter(|room| *room <= MOST_WALK_ROOM)?;
+        Some(Call::Salvage { from, room, recording: self.bytes()? })
     }
 }
 

@@ -1,7 +1,8 @@
-//! Shortens messages inside a script, with 9, 10 and 268 kept right where they were right, and
-//! changes of a store.
+//! Shortens messages inside a script, with 9, 10 and 268 kept right where they were right, changes
+//! of a store, and recordings with the room that is lent for their walks.
 
 use crate::gen::draft::{Draft, DraftField};
+use crate::salvage::pieces;
 use crate::script::Call;
 use crate::shrink::{shrink_list, Shows};
 
@@ -82,6 +83,43 @@ pub fn shorten_changes(calls: &mut Vec<Call>, place: usize, shows: Shows<Call>) 
     };
     let fewer = shrink_list(changes, &mut |changes| !changes.is_empty() && shows(&with(changes)));
     *calls = with(&fewer);
+}
+
+/// Shortens the walk of one call: its recording, then its room.
+pub fn shorten_walk(calls: &mut Vec<Call>, place: usize, shows: Shows<Call>) {
+    shorten_recording(calls, place, shows);
+    while let Call::Salvage { from, room, recording } = calls[place].clone() {
+        let with = |room: u64| with_walk(calls, place, from, room, &recording);
+        let less = [room / 2, room.saturating_sub(1)].into_iter().filter(|less| *less < room);
+        match less.map(with).find(|shorter| shows(shorter)) {
+            Some(shorter) => *calls = shorter,
+            None => break,
+        }
+    }
+}
+
+/// The script with another walk at a place.
+fn with_walk(calls: &[Call], place: usize, from: u64, room: u64, recording: &[u8]) -> Vec<Call> {
+    let mut others = calls.to_vec();
+    others[place] = Call::Salvage { from, room, recording: recording.to_vec() };
+    others
+}
+
+/// Leaves out the bytes before a walk's start, then whole pieces, then single bytes.
+fn shorten_recording(calls: &mut Vec<Call>, place: usize, shows: Shows<Call>) {
+    let Call::Salvage { mut from, room, mut recording } = calls[place].clone() else { return };
+    let before = (from as usize).min(recording.len());
+    if shows(&with_walk(calls, place, 0, room, &recording[before..])) {
+        recording.drain(..before);
+        from = 0;
+    }
+    let with = |bytes: &[u8]| with_walk(calls, place, from, room, bytes);
+    let of_piece = |start: usize, end: usize| recording[start..end].to_vec();
+    let whole: Vec<Vec<u8>> =
+        pieces(&recording, 0).iter().map(|piece| of_piece(piece.start, piece.end())).collect();
+    let kept = shrink_list(&whole, &mut |pieces| shows(&with(&pieces.concat()))).concat();
+    let kept = shrink_list(&kept, &mut |bytes| shows(&with(bytes)));
+    *calls = with(&kept);
 }
 
 /// The tag that begins an entry in this message.

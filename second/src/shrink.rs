@@ -1,19 +1,21 @@
-//! Shortens a script that shows something: calls are left out, then parts of messages.
+//! Shortens a script that shows something: calls are left out, then parts of messages and of
+//! recordings.
 
 use crate::script::Call;
-use crate::shorten::{shorten_changes, shorten_message, without_number};
+use crate::shorten::{shorten_changes, shorten_message, shorten_walk, without_number};
 
 /// What a shortened list must still show.
 pub type Shows<'a, T> = &'a mut dyn FnMut(&[T]) -> bool;
 
-/// The shortest script found that still shows it: no single call, entry or field of a sound
-/// frame can be left out. Gives the script back as it was if it doesn't show it.
+/// The shortest script found that still shows it: no single call, entry, field of a sound frame or
+/// byte of a recording can be left out. Gives the script back as it was if it doesn't show it.
 pub fn shrink(calls: &[Call], shows: Shows<Call>) -> Vec<Call> {
     let mut kept = shrink_list(calls, shows);
     leave_out_numbers(&mut kept, shows);
     for place in 0..kept.len() {
         shorten_message(&mut kept, place, shows);
         shorten_changes(&mut kept, place, shows);
+        shorten_walk(&mut kept, place, shows);
     }
     leave_out_numbers(&mut kept, shows);
     shrink_list(&kept, shows)

@@ -2,8 +2,8 @@
 
 use std::collections::{BTreeMap, BTreeSet};
 
-/// The columns of a histogram: the six calls, and calls on a store with numbers changed.
-const COLUMNS: [&str; 7] = ["open", "feed", "quote", "write", "state", "board", "damage"];
+/// The columns of a histogram: the seven calls, and calls on a store with numbers changed.
+const COLUMNS: [&str; 8] = ["open", "feed", "quote", "write", "state", "board", "salvage", "damage"];
 
 /// Counts of answer lines by call and answer number.
 #[derive(Default)]

@@ -1,7 +1,7 @@
 //! The making of calls and the comparison: a seed gives one script, scripts are read back as
 //! they were written, and a flip is found and shortened to a few calls.
 
-use selkavorn_second::flip::FLIPS;
+use selkavorn_second::flip::{Flip, FLIPS};
 use selkavorn_second::run::run;
 use selkavorn_second::script::{read_script, script_text, Call};
 use selkavorn_second::{compare, gen, shrink};
@@ -23,5 +23,22 @@ fn scripts_show_flips() {
         let shortest = shrink::shrink(&calls, &mut |calls| shows(number, calls));
         assert!(shows(number, &shortest));
         assert!(shortest.len() <= 40, "{}", script_text(&shortest));
+    }
+    walks_are_shortened(calls);
+}
+
+/// The shortest script that shows a wrong walk is one walk of a short recording.
+fn walks_are_shortened(calls: Vec<Call>) {
+    let walks: Vec<Call> = calls.into_iter().filter(|call| call.function() == Some("salvage")).collect();
+    let of_walks =
+        |flip: &Flip| *flip != Flip::SalvageLongestLost && format!("{flip:?}").starts_with("Salvage");
+    let numbers = (1..).zip(FLIPS).filter(|(_, (flip, _))| of_walks(flip)).map(|(number, _)| number);
+    let found: Vec<usize> = numbers.filter(|number| shows(*number, &walks)).collect();
+    assert!(found.len() >= 10, "only {found:?}");
+    for number in found {
+        let shortest = shrink::shrink(&walks, &mut |calls| shows(number, calls));
+        assert!(shows(number, &shortest));
+        let [Call::Salvage { room, recording, .. }] = &shortest[..] else { panic!("{shortest:?}") };
+        assert!(recording.len() <= 420 && *room <= 20, "{}", script_text(&shortest));
     }
 }
