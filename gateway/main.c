@@ -2,7 +2,6 @@
 #define _POSIX_C_SOURCE 200809L
 
 #include <errno.h>
-#include <fcntl.h>
 #include <stdio.h>
 #include <string.h>
 #include <unistd.h>
@@ -75,15 +74,6 @@ static void check_moment(struct board *board, const struct request *request)
                                       request->limit_s, quote, SELKAVORN_QUOTE_NUMBERS);
     if (answer == SELKAVORN_ARGUMENT)
         bad_use("not a moment as 20250103-13:00:00 or 20250103-13:00:00.000", request->now);
-}
-
-/* Opens a file for reading; -1 where that fails, which is then said. */
-static int open_file(const char *path)
-{
-    int file = strcmp(path, "-") == 0 ? STDIN_FILENO : open(path, O_RDONLY);
-    if (file < 0)
-        fprintf(stderr, "selkavorn: %s cannot be read: %s\n", path, strerror(errno));
-    return file;
 }
 
 /* The place at which an open file is to be read again. */
