@@ -1,4 +1,4 @@
-/* The program: selkavorn replay or snapshot, with options and a recording. */
+/* The program: selkavorn replay, snapshot or salvage, with options and a recording. */
 #define _POSIX_C_SOURCE 200809L
 
 #include <errno.h>
@@ -7,6 +7,7 @@
 #include <unistd.h>
 
 #include "replay.h"
+#include "salvage.h"
 
 static const char HELP[] =
     "selkavorn replay [options] FILE\n"
@@ -149,6 +150,8 @@ int main(int argc, char **argv)
     struct files files = {.recording = open_file(request.path), .snapshots = -1};
     if (files.recording < 0)
         return STATUS_FILE;
+    if (request.command == COMMAND_SALVAGE)
+        return printed(salvage(&request, files.recording));
     if (request.snapshots != NULL && (files.snapshots = open_file(request.snapshots)) < 0)
         return STATUS_FILE;
     return printed(work(&board, &request, files));

@@ -80,15 +80,20 @@ bool message_time(const struct piece *message, int64_t *ms)
     return true;
 }
 
-const char *value_words(struct value value, char text[VALUE_TEXT])
+const char *value_text(struct value value, char *text, size_t room)
 {
-    size_t n = value.length < VALUE_TEXT - 1 ? value.length : VALUE_TEXT - 1;
+    size_t n = value.length < room - 1 ? value.length : room - 1;
     if (value.bytes == NULL)
         return strcpy(text, "-");
     for (size_t i = 0; i < n; i++)
         text[i] = (char)(value.bytes[i] > 32 && value.bytes[i] < 127 ? value.bytes[i] : '?');
     text[n] = '\0';
     return text;
+}
+
+const char *value_words(struct value value, char text[VALUE_TEXT])
+{
+    return value_text(value, text, VALUE_TEXT);
 }
 
 void message_label(const struct piece *message, struct label *label)

@@ -37,8 +37,11 @@ bool value_is_moment(struct value value);
  * that it is sent once more (43=Y) and 122 stands. False where it has none. */
 bool message_time(const struct piece *message, int64_t *ms);
 
-/* A value as text: what cannot be printed becomes a question mark, a missing value a minus, and
- * what is too long is cut. */
+/* A value as text in room for so many bytes: what cannot be printed becomes a question mark, a
+ * missing value a minus, and what is too long is cut. */
+const char *value_text(struct value value, char *text, size_t room);
+
+/* The same in the room of a column. */
 const char *value_words(struct value value, char text[VALUE_TEXT]);
 
 /* A message's type and number in words; for a snapshot (W) its 48 and 369 are the number. */

@@ -79,8 +79,8 @@ static size_t decided_to(const struct recording *recording, size_t to)
     return at < to ? at : to;
 }
 
-/* Adds what is decided of a run that the library passed over to the run that is not yet given. Where
- * a byte of it is not decided, nothing of the walk behind that byte is. */
+/* Adds what is decided of a run that the library passed over to the run that is not yet given.
+ * Where a byte of it is not decided, nothing of the walk behind that byte is. */
 static void pass_over(struct recording *recording, const uint64_t *found)
 {
     size_t end = (size_t)(found[SELKAVORN_PIECE_START] + found[SELKAVORN_PIECE_LENGTH]);
