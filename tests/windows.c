@@ -145,12 +145,12 @@ static void put_flipped(void)
 static void put_outer(void)
 {
     char head[64];
-    size_t inner = 1 + below(3), start = drawn_n, room = strlen("8=FIX.4.4|9=0000|35=0|");
+    size_t inner = 1 + below(3), start = drawn_n, room = strlen("8=FIX.4.4|9=000|35=0|");
     drawn_n += room;
     for (; inner > 0; inner--)
-        put_message(1 + below(200), 0, 0);
+        put_message(100 + below(150), 0, 0); /* so that tag 9 has three digits */
     drawn_n -= strlen("10=000|");
-    snprintf(head, sizeof head, "8=FIX.4.4\0019=%04zu\00135=0\001",
+    snprintf(head, sizeof head, "8=FIX.4.4\0019=%zu\00135=0\001",
              drawn_n - start - room + strlen("35=0|"));
     memcpy(drawn + start, head, room);
     put_trailer(start, (unsigned)below(2));
