@@ -42,6 +42,17 @@ static void watch_signals(void)
             sigaction(ending[i], &removal, NULL);
 }
 
+/* Moves an open file above the standard ones: where standard output is closed, what is printed must
+ * not come into it. */
+static int lift(int file)
+{
+    if (file < 0 || file > STDERR_FILENO)
+        return file;
+    int lifted = fcntl(file, F_DUPFD, STDERR_FILENO + 1);
+    close(file);
+    return lifted;
+}
+
 /* Makes a new file of the name that ends with XXXXXX, which are replaced. No signal comes between
  * that and the time from which it would be removed. */
 static int make_unfinished(char *name)
@@ -101,7 +112,8 @@ static bool open_temporary(struct keeping *keeping)
     if (file < 0)
         return false;
     widen_mode(file);
-    keeping->file = fdopen(file, "wb");
+    file = lift(file);
+    keeping->file = file < 0 ? NULL : fdopen(file, "wb");
     return keeping->file != NULL;
 }
 

@@ -157,6 +157,13 @@ grows_too_large() {
 # prints_nothing: whether nothing is kept where the lines cannot be printed.
 prints_nothing() { fills_up salvage --keep "$keeps/unsaid" "$night" && leaves out; }
 
+# has_no_output: the same where there is no standard output.
+has_no_output() {
+    got=0
+    scripts/run-program target/c/selkavorn salvage --keep "$keeps/unsaid" - <"$night" >&- 2>"$work/err" || got=$?
+    [ "$got" -eq 1 ] && leaves out
+}
+
 # does_without_links: whether a file system without second names does, and no file is replaced there either.
 does_without_links() {
     printf '#include <errno.h>\nint link(const char *from, const char *to) { (void)from, (void)to; errno = EPERM; return -1; }\n' >"$work/link.c"
@@ -240,6 +247,7 @@ check "salvage: not onto a device" stays 1 "no regular file" salvage --overwrite
 check "salvage: no such folder" stays 1 "could not be written: No such file" salvage --keep "$keeps/none/out" "$night"
 check "salvage: a file that grows too large" grows_too_large
 check "salvage: lines that cannot be printed" prints_nothing
+check "salvage: no standard output" has_no_output
 check "salvage: ended by a signal" is_ended
 check "salvage: a reading that fails keeps nothing" stays 3 "target/c cannot be read" salvage --overwrite --keep "$keeps/out" target/c
 check "salvage: no message keeps nothing" stays 3 "holds no message" salvage --keep "$keeps/none" samples/morning.txt
