@@ -34,23 +34,12 @@ static void remove_unfinished(int number)
  * fail as any writing does. */
 static void watch_signals(void)
 {
-    static const int ending[] = {SIGHUP, SIGINT, SIGPIPE, SIGTERM};
+    static const int ending[] = {SIGHUP, SIGINT, SIGPIPE, SIGQUIT, SIGTERM, SIGXCPU};
     struct sigaction removal = {.sa_handler = remove_unfinished, .sa_flags = SA_RESETHAND}, now;
     signal(SIGXFSZ, SIG_IGN);
     for (size_t i = 0; i < sizeof ending / sizeof *ending; i++)
         if (sigaction(ending[i], NULL, &now) == 0 && now.sa_handler != SIG_IGN)
             sigaction(ending[i], &removal, NULL);
-}
-
-/* Moves an open file above the standard ones: where standard output is closed, what is printed must
- * not come into it. */
-static int lift(int file)
-{
-    if (file < 0 || file > STDERR_FILENO)
-        return file;
-    int lifted = fcntl(file, F_DUPFD, STDERR_FILENO + 1);
-    close(file);
-    return lifted;
 }
 
 /* Makes a new file of the name that ends with XXXXXX, which are replaced. No signal comes between
@@ -96,6 +85,17 @@ static void widen_mode(int file)
     mode_t mask = umask(0);
     umask(mask);
     fchmod(file, 0666 & ~mask);
+}
+
+/* Moves an open file above the standard ones: where standard output is closed, what is printed must
+ * not come into it. */
+static int lift(int file)
+{
+    if (file > STDERR_FILENO)
+        return file;
+    int lifted = fcntl(file, F_DUPFD, STDERR_FILENO + 1);
+    close(file);
+    return lifted;
 }
 
 /* Opens a new file beside the one that is to be. */

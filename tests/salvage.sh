@@ -243,6 +243,8 @@ check "salvage: --overwrite" replaces
 check "salvage: not onto the file that is read" refuses_itself
 check "salvage: the name is taken meanwhile" finds_name_taken
 check "salvage: not onto a folder" stays 1 "no regular file" salvage --overwrite --keep "$keeps" "$night"
+ln -s no-such-file "$work/link"
+check "salvage: not onto a link" stays 1 "no regular file" salvage --overwrite --keep "$work/link" "$night"
 check "salvage: not onto a device" stays 1 "no regular file" salvage --overwrite --keep /dev/null "$night"
 check "salvage: no such folder" stays 1 "could not be written: No such file" salvage --keep "$keeps/none/out" "$night"
 check "salvage: a file that grows too large" grows_too_large

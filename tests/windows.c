@@ -18,9 +18,9 @@
 enum {
     LONGEST_DRAWN = 3 * RECORDING_BUFFER,
     ROOM = LONGEST_DRAWN + 8 * SELKAVORN_LONGEST_MESSAGE,
-    FILES = 150,   /* recordings that are read from a file */
+    FILES = 100,   /* recordings that are read from a file */
     SOCKETS = 150, /* and from a socket */
-    PATIENCE_S = 60
+    PATIENCE_S = 20 /* for what is to be given at once */
 };
 
 static uint8_t drawn[ROOM];
@@ -288,12 +288,14 @@ static void try_at_once(const char *what, size_t n)
     walk_whole();
     if (pipe(ends) != 0 || write(ends[1], drawn, drawn_n) != (ssize_t)drawn_n)
         fail("a pipe");
+    alarm(PATIENCE_S);
     recording_begin(&recording, ends[0], NULL);
     bool good = n <= whole[SELKAVORN_SALVAGE_COUNT];
     for (size_t i = 0; good && i < n; i++) {
         recording_next(&recording, &piece);
         good = is_same(&piece, whole + SELKAVORN_SALVAGE_PIECES + SELKAVORN_PIECE_NUMBERS * i);
     }
+    alarm(0);
     check(good, what, 0);
     close(ends[0]);
     close(ends[1]);
@@ -306,7 +308,7 @@ static void try_pipes(void)
     put_message(20, 0, 0);
     try_at_once("messages at once", 2);
     drawn_n = 0;
-    put_text("8=FIX.4.4\0018=FIX.4.5");
+    put_text("8=FIX.4.4\0018=FIX.4.4\0019:");
     put_message(10, 0, 0);
     try_at_once("a message behind a run at once", 2);
     put_text("8=FIX.4.4\0019=");
@@ -318,14 +320,13 @@ int main(void)
     /* Small chunks are for small recordings: the last 8,191 bytes are walked anew with each. */
     static const size_t most[] = {1, 7, 100, 1500, SELKAVORN_LONGEST_MESSAGE};
     enum { SIZES = sizeof most / sizeof *most };
-    alarm(PATIENCE_S);
     for (unsigned i = 0; i < FILES; i++) {
         draw(below(LONGEST_DRAWN));
         walk_whole();
         try_file(i);
     }
     for (unsigned i = 0; i < SOCKETS; i++) {
-        draw(below(most[i % SIZES] < 1000 ? 20000 : 300000));
+        draw(below(most[i % SIZES] < 1000 ? 12000 : 200000));
         walk_whole();
         try_socket(i, most[i % SIZES]);
     }
