@@ -33,8 +33,3 @@ bool is_well_formed(uint64_t answer)
 {
     return answer < SELKAVORN_FRAME;
 }
-
-bool may_hold_another(uint64_t answer)
-{
-    return answer == SELKAVORN_FRAME || answer == SELKAVORN_CHECKSUM;
-}

@@ -32,14 +32,11 @@ uint64_t board_open(struct board *board, const struct request *request);
 /* Says what the board has counted; nothing where the library refuses the store. */
 struct heading board_heading(const struct board *board);
 
-/* Feeds a message to a board that is kept for this alone: its answers 11 to 14 are those of every
+/* Feeds a message to a board that is kept for this alone: its answers 13 and 14 are those of every
  * board, and any lower one says that the message is well-formed. */
 uint64_t judge(const struct request *request, const struct piece *message);
 
 /* Answers of messages that are well-formed, whatever became of them. */
 bool is_well_formed(uint64_t answer);
-
-/* Answers of a stretch whose tag 9 may be damaged, so that it runs over another message. */
-bool may_hold_another(uint64_t answer);
 
 #endif

@@ -1,12 +1,13 @@
 /* The quotes as comma-separated values (RFC 4180, with plain line ends): a row for each side of a
  * quote, and one for an instrument that has none. */
+#include "csv.h"
+
 #include <inttypes.h>
 #include <stdio.h>
 
 #include "quotes.h"
 
-/* Prints a text in quotes; a quote in it is doubled. */
-static void print_text(const char *text)
+void print_csv_text(const char *text)
 {
     putchar('"');
     for (; *text != '\0'; text++) {
@@ -22,12 +23,12 @@ static void print_label(const struct quotes *quotes, const struct quoted *quoted
 {
     char text[WHY_TEXT];
     printf("%" PRIu64 ",", quoted->id);
-    print_text(quoted->name);
+    print_csv_text(quoted->name);
     putchar(',');
     if (!quotes->lost_reset)
         printf("%" PRIu64, quoted->answer);
     putchar(',');
-    print_text(why_words(quotes, quoted, text));
+    print_csv_text(why_words(quotes, quoted, text));
 }
 
 /* Prints the columns of a side, empty ones where there is none or it holds nothing. */
@@ -35,7 +36,7 @@ static void print_side(const char *side, const struct side_words *words)
 {
     printf(",%s,%s,%s,", side, words->price, words->size);
     if (words->order[0] != '\0')
-        print_text(words->order);
+        print_csv_text(words->order);
     printf(",%s,%s", words->orders, words->entered);
 }
 

@@ -80,18 +80,17 @@ static void take_listed(struct census *census, const struct piece *message)
             symbol_name(entry.symbol, find_named(census, entry.id)->name);
 }
 
-static void take_piece(struct census *census, struct streams *streams, const struct piece *piece)
+static void take_piece(struct census *census, const struct request *request,
+                       const struct piece *piece)
 {
     if (piece->kind == PIECE_PASSED)
         return;
-    uint64_t answer = judge(streams->request, piece);
+    uint64_t answer = judge(request, piece);
     census->messages++;
     if (is_well_formed(answer) && message_names_instruments(piece))
         count_named(census, piece);
     if (is_well_formed(answer) && message_has_type(piece, 'y'))
         take_listed(census, piece);
-    if (may_hold_another(answer))
-        streams_look_inside(streams, piece);
 }
 
 static enum status take_census(struct census *census, const struct request *request,
@@ -101,12 +100,9 @@ static enum status take_census(struct census *census, const struct request *requ
     struct progress progress;
     struct piece piece;
     progress_begin(&progress, files.recording, false);
-    streams_begin(&streams, request, files);
-    for (streams_next(&streams, &piece); piece.kind != PIECE_END; streams_next(&streams, &piece)) {
-        take_piece(census, &streams, &piece);
-        if (!piece.of_snapshots)
-            progress_at(&progress, piece.place);
-    }
+    streams_begin(&streams, request, files, &progress);
+    for (streams_next(&streams, &piece); piece.kind != PIECE_END; streams_next(&streams, &piece))
+        take_piece(census, request, &piece);
     progress_end(&progress);
     return streams_status(&streams);
 }

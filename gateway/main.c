@@ -1,68 +1,14 @@
-/* The program: selkavorn replay or snapshot, with options and a recording. */
+/* The program: selkavorn replay, snapshot or salvage, with options and a recording. */
 #define _POSIX_C_SOURCE 200809L
 
 #include <errno.h>
-#include <fcntl.h>
 #include <stdio.h>
 #include <string.h>
 #include <unistd.h>
 
+#include "help.h"
 #include "replay.h"
-
-static const char HELP[] =
-    "selkavorn replay [options] FILE\n"
-    "selkavorn snapshot --instrument ID --sender NAME --target NAME [options] FILE\n"
-    "\n"
-    "replay feeds a recording of one channel to a fresh board. It prints a line for\n"
-    "each message, and then the quotes of all instruments, each with its date: the\n"
-    "sending time of the last message that was counted. snapshot feeds it likewise,\n"
-    "and writes the book of one instrument as a snapshot message (W).\n"
-    "\n"
-    "FILE holds messages end to end, - is standard input: the incremental stream,\n"
-    "and the snapshots (W) of its snapshot stream if they are not in a file of their\n"
-    "own. It must not hold the heartbeats of the snapshot stream: their numbers\n"
-    "would be counted.\n"
-    "\n"
-    "Both:\n"
-    "  --depth order|price    kind of the channel; order unless given\n"
-    "  --snapshots FILE       a recording of the snapshot stream: its snapshots are\n"
-    "                         fed by their times, its other messages left out\n"
-    "  --resets open|pass     at a sequence reset (35=4), also one that was lost,\n"
-    "                         open the board afresh, or not; open unless given\n"
-    "  --silence SECONDS      take a longer silence before the very next number for a\n"
-    "                         lost reset, 1 to 86400; none is unless given\n"
-    "replay:\n"
-    "  --instruments ID[=NAME][,ID[=NAME]..]\n"
-    "                         1 to 16 SecurityIDs to follow; unless given, those\n"
-    "                         that the recording names, which is then read twice\n"
-    "  --now MOMENT           when the quotes are to be used, in UTC, as\n"
-    "                         20250103-13:00:00 or 20250103-13:00:00.000; unless\n"
-    "                         given, the last moment in the recording\n"
-    "  --limit SECONDS        give no quote that is older than this at that moment,\n"
-    "                         0 to 86400; 30 unless given\n"
-    "  --quote                print no line for each message\n"
-    "  --csv, --json          print the quotes alone, for a program\n"
-    "snapshot:\n"
-    "  --instrument ID        the instrument's SecurityID\n"
-    "  --sender NAME          tag 49, 1 to 16 bytes\n"
-    "  --target NAME          tag 56, likewise\n"
-    "  --number K, --of M     tags 34 and 911, 1 to 16; 1 and 1 unless given\n"
-    "  --time MOMENT          tag 52; unless given, the heard moment\n"
-    "\n"
-    "  -h, --help             print this\n"
-    "  --version              print the version\n"
-    "An option's value may also follow a =, as in --limit=10. -- ends the options.\n"
-    "\n"
-    "The computer's clock is never read. For quotes to sell by, give the present:\n"
-    "  --now $(date -u +%Y%m%d-%H:%M:%S)\n"
-    "\n"
-    "Exit status:\n"
-    "  0  a quote is given of one instrument at least; or the snapshot is written\n"
-    "  1  the output could not be written\n"
-    "  2  bad use, also where more than 16 instruments are named to choose from\n"
-    "  3  a file could not be read, holds no message, or names no instrument\n"
-    "  4  no quote could be given, or no snapshot written\n"
-    "  5  none is given: a sequence reset was lost, and --resets is pass\n";
+#include "salvage.h"
 
 /* Lets the library judge the moment of --now, on a board that is opened for this alone. */
 static void check_moment(struct board *board, const struct request *request)
@@ -75,15 +21,6 @@ static void check_moment(struct board *board, const struct request *request)
                                       request->limit_s, quote, SELKAVORN_QUOTE_NUMBERS);
     if (answer == SELKAVORN_ARGUMENT)
         bad_use("not a moment as 20250103-13:00:00 or 20250103-13:00:00.000", request->now);
-}
-
-/* Opens a file for reading; -1 where that fails, which is then said. */
-static int open_file(const char *path)
-{
-    int file = strcmp(path, "-") == 0 ? STDIN_FILENO : open(path, O_RDONLY);
-    if (file < 0)
-        fprintf(stderr, "selkavorn: %s cannot be read: %s\n", path, strerror(errno));
-    return file;
 }
 
 /* The place at which an open file is to be read again. */
@@ -146,10 +83,14 @@ int main(int argc, char **argv)
     static struct board board;
     static struct request request;
     for (int i = 1; i < argc && strcmp(argv[i], "--") != 0; i++) {
-        if (strcmp(argv[i], "-h") == 0 || strcmp(argv[i], "--help") == 0)
-            return printed(fputs(HELP, stdout) < 0 ? STATUS_OUTPUT : STATUS_GOOD);
-        if (strcmp(argv[i], "--version") == 0)
-            return printed(puts("selkavorn " SELKAVORN_VERSION) < 0 ? STATUS_OUTPUT : STATUS_GOOD);
+        if (strcmp(argv[i], "-h") == 0 || strcmp(argv[i], "--help") == 0) {
+            print_help();
+            return printed(STATUS_GOOD);
+        }
+        if (strcmp(argv[i], "--version") == 0) {
+            puts("selkavorn " SELKAVORN_VERSION);
+            return printed(STATUS_GOOD);
+        }
     }
     read_command(&request, argc, argv);
     if (request.now != NULL)
@@ -159,6 +100,8 @@ int main(int argc, char **argv)
     struct files files = {.recording = open_file(request.path), .snapshots = -1};
     if (files.recording < 0)
         return STATUS_FILE;
+    if (request.command == COMMAND_SALVAGE)
+        return printed(salvage(&request, files.recording));
     if (request.snapshots != NULL && (files.snapshots = open_file(request.snapshots)) < 0)
         return STATUS_FILE;
     return printed(work(&board, &request, files));

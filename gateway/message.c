@@ -1,6 +1,7 @@
 /* The values of a message that this program shows or remembers. */
 #include "message.h"
 
+#include <stdio.h>
 #include <string.h>
 
 #include "words.h"
@@ -79,13 +80,31 @@ bool message_time(const struct piece *message, int64_t *ms)
     return true;
 }
 
-const char *value_words(struct value value, char text[VALUE_TEXT])
+const char *value_text(struct value value, char *text, size_t room)
 {
-    size_t n = value.length < VALUE_TEXT - 1 ? value.length : VALUE_TEXT - 1;
+    size_t n = value.length < room - 1 ? value.length : room - 1;
     if (value.bytes == NULL)
         return strcpy(text, "-");
     for (size_t i = 0; i < n; i++)
         text[i] = (char)(value.bytes[i] > 32 && value.bytes[i] < 127 ? value.bytes[i] : '?');
     text[n] = '\0';
     return text;
+}
+
+const char *value_words(struct value value, char text[VALUE_TEXT])
+{
+    return value_text(value, text, VALUE_TEXT);
+}
+
+void message_label(const struct piece *message, struct label *label)
+{
+    char first[VALUE_TEXT], second[VALUE_TEXT];
+    value_words(message_first(message, "35"), label->type);
+    if (message_has_type(message, 'W'))
+        snprintf(label->number, sizeof label->number, "48=%s 369=%s",
+                 value_words(message_first(message, "48"), first),
+                 value_words(message_first(message, "369"), second));
+    else
+        snprintf(label->number, sizeof label->number, "34=%s",
+                 value_words(message_first(message, "34"), first));
 }

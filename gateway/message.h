@@ -7,7 +7,7 @@
 
 #include "recording.h"
 
-enum { VALUE_TEXT = 24 };
+enum { VALUE_TEXT = 24, NUMBER_TEXT = 64 };
 
 /* A field's value: bytes of the message itself, NULL where the field is missing. */
 struct value {
@@ -37,8 +37,17 @@ bool value_is_moment(struct value value);
  * that it is sent once more (43=Y) and 122 stands. False where it has none. */
 bool message_time(const struct piece *message, int64_t *ms);
 
-/* A value as text: what cannot be printed becomes a question mark, a missing value a minus, and
- * what is too long is cut. */
+/* A value as text in room for so many bytes: what cannot be printed becomes a question mark, a
+ * missing value a minus, and what is too long is cut. */
+const char *value_text(struct value value, char *text, size_t room);
+
+/* The same in the room of a column. */
 const char *value_words(struct value value, char text[VALUE_TEXT]);
+
+/* A message's type and number in words; for a snapshot (W) its 48 and 369 are the number. */
+struct label {
+    char type[VALUE_TEXT], number[NUMBER_TEXT];
+};
+void message_label(const struct piece *message, struct label *label);
 
 #endif

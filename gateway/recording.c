@@ -1,5 +1,8 @@
-/* Walks a recording through a buffer of fixed size. The bounds of a message are found by its first
- * two fields, 8=FIX.4.4 and 9, and by its last, 10; all else is for the library to judge. */
+/* Walks a recording through a buffer of fixed size. The library says where messages stand among the
+ * bytes at hand. What it finds there is a message of the whole recording too. A byte that it passes
+ * over is decided if as many bytes are at hand from it on as the longest message has, if those at
+ * hand differ from the beginning of every message, or if the recording ends with them. From the
+ * first byte that is not decided the library is asked anew, with more behind it. */
 #define _POSIX_C_SOURCE 200809L
 
 #include "recording.h"
@@ -9,71 +12,37 @@
 #include <string.h>
 #include <unistd.h>
 
-#include "selkavorn.h"
-
 static const char BEGIN[] = "8=FIX.4.4\0019=";
-enum { BEGIN_BYTES = sizeof BEGIN - 1, COUNT_DIGITS = 5, TRAILER_BYTES = sizeof "10=000|" - 1 };
+enum { BEGIN_BYTES = sizeof BEGIN - 1 };
 
-/* What the bytes at hand say of a message that begins at the first of them. */
-enum verdict { IS_MESSAGE, IS_NONE, NEEDS_MORE };
-
-void recording_begin(struct recording *recording, int file)
+void recording_begin(struct recording *recording, int file, struct progress *progress)
 {
     memset(recording, 0, sizeof *recording);
     recording->file = file;
+    recording->progress = progress;
+    recording->run.kind = PIECE_PASSED;
 }
 
-/* Reads tag 9, behind BEGIN: sets `head`, the bytes up to and with its SOH, and `count`, its
- * value. */
-static enum verdict read_count(const uint8_t *bytes, size_t n, size_t *head, size_t *count)
+/* ---- the bytes at hand ---- */
+
+/* Makes room behind the bytes at hand for those of a message. More are read only while fewer are
+ * undecided than the longest message has. */
+static void make_room(struct recording *recording)
 {
-    size_t at = BEGIN_BYTES;
-    *count = 0;
-    while (at < n && at < BEGIN_BYTES + COUNT_DIGITS && bytes[at] >= '0' && bytes[at] <= '9')
-        *count = *count * 10 + (size_t)(bytes[at++] - '0');
-    if (at == n)
-        return NEEDS_MORE;
-    *head = at + 1;
-    return bytes[at] == SOH && at > BEGIN_BYTES ? IS_MESSAGE : IS_NONE;
+    if (RECORDING_BUFFER - recording->end >= SELKAVORN_LONGEST_MESSAGE)
+        return;
+    recording->before += recording->start;
+    recording->end -= recording->start;
+    memmove(recording->bytes, recording->bytes + recording->start, recording->end);
+    recording->start = 0;
 }
 
-/* Sets the message's length, or what there is to tell where there is none. */
-static enum verdict judge(const uint8_t *bytes, size_t n, size_t *length, enum passed *why)
-{
-    size_t head = 0, count = 0;
-    *why = PASSED_NO_BEGIN;
-    if (memcmp(bytes, BEGIN, n < BEGIN_BYTES ? n : BEGIN_BYTES) != 0)
-        return IS_NONE;
-    if (n < BEGIN_BYTES)
-        return NEEDS_MORE;
-    enum verdict counted = read_count(bytes, n, &head, &count);
-    if (counted == IS_NONE)
-        return IS_NONE;
-    *length = head + count + TRAILER_BYTES;
-    *why = PASSED_TOO_LONG;
-    if (*length > SELKAVORN_LONGEST_MESSAGE)
-        return IS_NONE;
-    *why = PASSED_CUT_OFF;
-    if (counted == NEEDS_MORE || *length > n)
-        return NEEDS_MORE;
-    const uint8_t *trailer = bytes + head + count;
-    *why = PASSED_NO_TRAILER;
-    if (trailer[-1] != SOH || memcmp(trailer, "10=", 3) != 0 || trailer[TRAILER_BYTES - 1] != SOH)
-        return IS_NONE;
-    return IS_MESSAGE;
-}
-
-/* Reads more bytes behind those at hand; false where there are none. There is room: more bytes are
- * asked for only while those at hand are fewer than the longest message. */
+/* Reads more bytes behind those at hand; false where there are none. */
 static bool read_more(struct recording *recording)
 {
     if (recording->ended)
         return false;
-    if (recording->end == RECORDING_BUFFER) {
-        recording->end -= recording->start;
-        memmove(recording->bytes, recording->bytes + recording->start, recording->end);
-        recording->start = 0;
-    }
+    make_room(recording);
     fflush(stdout); /* what was said is seen before this waits for more */
     ssize_t got;
     do
@@ -83,66 +52,86 @@ static bool read_more(struct recording *recording)
     recording->failure = got < 0 ? errno : 0;
     recording->ended = got <= 0;
     recording->end += got > 0 ? (size_t)got : 0;
+    if (recording->progress != NULL)
+        progress_at(recording->progress, recording->before + recording->end);
     return got > 0;
 }
 
-/* Says whether a message begins where the recording stands, reading as much as that takes. */
-static bool begins_here(struct recording *recording, size_t *length, enum passed *why)
+/* ---- the walk ---- */
+
+/* Says whether the bytes at hand agree with the beginning of a message. */
+static bool may_begin(const uint8_t *bytes, size_t n)
 {
-    enum verdict found;
-    do
-        found = judge(recording->bytes + recording->start, recording->end - recording->start,
-                      length, why);
-    while (found == NEEDS_MORE && read_more(recording));
-    return found == IS_MESSAGE;
+    return memcmp(bytes, BEGIN, n < BEGIN_BYTES ? n : BEGIN_BYTES) == 0;
 }
 
-static void advance(struct recording *recording, size_t bytes)
+/* Of bytes that the library passed over, up to `to`, gives the first from bytes[start] on that is
+ * not decided, or `to`. */
+static size_t decided_to(const struct recording *recording, size_t to)
 {
-    recording->start += bytes;
-    recording->place += bytes;
+    size_t at = recording->start, end = recording->end;
+    if (recording->ended)
+        return to;
+    if (end - at >= SELKAVORN_LONGEST_MESSAGE)
+        at = end - SELKAVORN_LONGEST_MESSAGE + 1;
+    while (at < to && !may_begin(recording->bytes + at, end - at))
+        at++;
+    return at < to ? at : to;
 }
 
-/* Adds the byte where the recording stands to a run of passed bytes, unless it was told before. */
-static void pass_over(struct recording *recording, struct piece *run, enum passed why)
+/* Adds what is decided of a run that the library passed over to the run that is not yet given.
+ * Where a byte of it is not decided, nothing of the walk behind that byte is. */
+static void pass_over(struct recording *recording, const uint64_t *found)
 {
-    if (recording->place >= recording->told_to) {
-        if (run->length++ == 0)
-            run->place = recording->place;
-        if (why > run->why)
-            run->why = why;
+    size_t end = (size_t)(found[SELKAVORN_PIECE_START] + found[SELKAVORN_PIECE_LENGTH]);
+    size_t to = decided_to(recording, end);
+    if (recording->run.length == 0)
+        recording->run.place = recording->before + recording->start;
+    recording->run.length += to - recording->start;
+    recording->start = to;
+    recording->used++;
+    if (to == end)
+        return;
+    recording->used = recording->walk[SELKAVORN_SALVAGE_COUNT];
+    read_more(recording);
+}
+
+/* Gives what the library finds next in the bytes at hand; NULL at the recording's end. */
+static const uint64_t *find_next(struct recording *recording)
+{
+    uint64_t *walk = recording->walk;
+    if (recording->used == walk[SELKAVORN_SALVAGE_COUNT]) {
+        if (recording->start == recording->end && !read_more(recording))
+            return NULL;
+        selkavorn_salvage(recording->bytes, recording->end, recording->start, walk, WALK_NUMBERS);
+        recording->used = 0;
     }
-    advance(recording, 1);
+    return walk + SELKAVORN_SALVAGE_PIECES + SELKAVORN_PIECE_NUMBERS * recording->used;
+}
+
+static void give_message(struct recording *recording, const uint64_t *found, struct piece *piece)
+{
+    *piece = (struct piece){.kind = PIECE_MESSAGE,
+                            .place = recording->before + recording->start,
+                            .length = found[SELKAVORN_PIECE_LENGTH],
+                            .bytes = recording->bytes + recording->start};
+    recording->start += (size_t)piece->length;
+    recording->used++;
 }
 
 void recording_next(struct recording *recording, struct piece *piece)
 {
-    size_t length = 0;
-    enum passed why = PASSED_NO_BEGIN;
-    *piece = (struct piece){.kind = PIECE_PASSED};
-    while (recording->start < recording->end || read_more(recording)) {
-        if (!begins_here(recording, &length, &why)) {
-            pass_over(recording, piece, why);
-            continue;
-        }
-        if (piece->length == 0) {
-            *piece = (struct piece){.kind = PIECE_MESSAGE,
-                                    .place = recording->place,
-                                    .length = length,
-                                    .bytes = recording->bytes + recording->start};
-            advance(recording, length);
-        }
-        return;
+    const uint64_t *found = find_next(recording);
+    while (found != NULL && found[SELKAVORN_PIECE_KIND] == SELKAVORN_PIECE_PASSED) {
+        pass_over(recording, found);
+        found = find_next(recording);
     }
-    if (piece->length == 0)
-        *piece = (struct piece){.kind = PIECE_END, .place = recording->place};
-}
-
-void recording_look_inside(struct recording *recording, const struct piece *message)
-{
-    size_t back = (size_t)message->length - 1;
-    recording->start -= back;
-    recording->place -= back;
-    if (recording->told_to < message->place + message->length)
-        recording->told_to = message->place + message->length;
+    if (recording->run.length > 0) {
+        *piece = recording->run;
+        recording->run.length = 0;
+    } else if (found != NULL) {
+        give_message(recording, found, piece);
+    } else {
+        *piece = (struct piece){.kind = PIECE_END, .place = recording->before + recording->end};
+    }
 }

@@ -11,8 +11,6 @@
 #include "recording.h"
 #include "resets.h"
 
-enum { NUMBER_TEXT = 64 };
-
 /* What was read, for the lines at the end. */
 struct totals {
     uint64_t messages;
@@ -52,16 +50,10 @@ static void print_place(const struct piece *piece)
 /* Prints a message's place, type and number. */
 static void print_label(const struct piece *message)
 {
-    char type[VALUE_TEXT], first[VALUE_TEXT], second[VALUE_TEXT], number[NUMBER_TEXT];
-    value_words(message_first(message, "35"), type);
-    if (message_has_type(message, 'W'))
-        snprintf(number, sizeof number, "48=%s 369=%s",
-                 value_words(message_first(message, "48"), first),
-                 value_words(message_first(message, "369"), second));
-    else
-        snprintf(number, sizeof number, "34=%s", value_words(message_first(message, "34"), first));
+    struct label label;
+    message_label(message, &label);
     print_place(message);
-    printf("  %-4s  %-24s  ", type, number);
+    printf("  %-4s  %-24s  ", label.type, label.number);
 }
 
 /* Prints the line of a message. `before` is what the board had counted before it. */
@@ -156,14 +148,8 @@ static bool leave_out(struct replay *replay, const struct piece *message)
 
 static void print_passed(const struct piece *run)
 {
-    static const char *const why[] = {
-        [PASSED_NO_BEGIN] = "no message begins in them",
-        [PASSED_NO_TRAILER] = "tag 10 is not where tag 9 says",
-        [PASSED_TOO_LONG] = "tag 9 says more than 8,192 bytes for a message",
-        [PASSED_CUT_OFF] = "the recording ends before the message does",
-    };
     print_place(run);
-    printf("  %" PRIu64 " bytes passed over: %s\n", run->length, why[run->why]);
+    printf("  %" PRIu64 " bytes passed over\n", run->length);
 }
 
 /* Says what was read. Where standard output is for a machine, only what a person must know is said,
@@ -218,8 +204,6 @@ static void take_piece(struct replay *replay, const struct piece *piece)
     uint64_t answer = feed(replay, piece);
     totals->fields_refused += answer == SELKAVORN_FIELDS;
     totals->well_formed += is_well_formed(answer) && message_names_instruments(piece);
-    if (may_hold_another(answer))
-        streams_look_inside(replay->streams, piece);
 }
 
 enum status replay(struct board *board, const struct request *request, struct files files)
@@ -231,18 +215,13 @@ enum status replay(struct board *board, const struct request *request, struct fi
     progress_begin(&progress, files.recording, !request->quote_only);
     if (!request->quote_only)
         printf("%10s  %-4s  %-24s  %7s  %s\n", "byte", "type", "number", "Waiting", "answer");
-    streams_begin(&streams, request, files);
-    for (streams_next(&streams, &piece); piece.kind != PIECE_END; streams_next(&streams, &piece)) {
+    streams_begin(&streams, request, files, &progress);
+    for (streams_next(&streams, &piece); piece.kind != PIECE_END; streams_next(&streams, &piece))
         take_piece(&replay, &piece);
-        if (!piece.of_snapshots)
-            progress_at(&progress, piece.place);
-    }
     progress_end(&progress);
     print_totals(&replay);
     enum status status = streams_status(&streams);
-    if (status == STATUS_GOOD && replay.totals.messages == 0) {
-        fprintf(stderr, "selkavorn: %s holds no message\n", request->path);
-        status = STATUS_FILE;
-    }
+    if (status == STATUS_GOOD && replay.totals.messages == 0)
+        status = no_message(request->path);
     return status;
 }

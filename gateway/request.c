@@ -173,22 +173,41 @@ static void take_json(struct request *request, const char *value)
     request->form = FORM_JSON;
 }
 
-enum { EITHER = COMMAND_REPLAY | COMMAND_SNAPSHOT };
+static void take_totals(struct request *request, const char *value)
+{
+    (void)value;
+    request->totals_only = true;
+}
+
+static void take_keep(struct request *request, const char *value)
+{
+    if (strcmp(value, "") == 0 || strcmp(value, "-") == 0)
+        bad_use("it needs the name of a file", "--keep");
+    request->keep = value;
+}
+
+static void take_overwrite(struct request *request, const char *value)
+{
+    (void)value;
+    request->overwrite = true;
+}
+
+enum { FEEDING = COMMAND_REPLAY | COMMAND_SNAPSHOT };
 static const struct option {
     const char *name;
     int commands; /* of enum command, that have it */
     bool has_value;
     void (*take)(struct request *request, const char *value);
 } OPTIONS[] = {
-    {"--depth", EITHER, true, take_depth},
-    {"--resets", EITHER, true, take_resets},
-    {"--silence", EITHER, true, take_silence},
-    {"--snapshots", EITHER, true, take_snapshots},
+    {"--depth", FEEDING, true, take_depth},
+    {"--resets", FEEDING, true, take_resets},
+    {"--silence", FEEDING, true, take_silence},
+    {"--snapshots", FEEDING, true, take_snapshots},
     {"--instruments", COMMAND_REPLAY, true, take_instruments},
     {"--now", COMMAND_REPLAY, true, take_now},
     {"--limit", COMMAND_REPLAY, true, take_limit},
     {"--quote", COMMAND_REPLAY, false, take_quote},
-    {"--csv", COMMAND_REPLAY, false, take_csv},
+    {"--csv", COMMAND_REPLAY | COMMAND_SALVAGE, false, take_csv},
     {"--json", COMMAND_REPLAY, false, take_json},
     {"--instrument", COMMAND_SNAPSHOT, true, take_instrument},
     {"--sender", COMMAND_SNAPSHOT, true, take_sender},
@@ -196,6 +215,9 @@ static const struct option {
     {"--number", COMMAND_SNAPSHOT, true, take_number},
     {"--of", COMMAND_SNAPSHOT, true, take_of},
     {"--time", COMMAND_SNAPSHOT, true, take_time},
+    {"--keep", COMMAND_SALVAGE, true, take_keep},
+    {"--overwrite", COMMAND_SALVAGE, false, take_overwrite},
+    {"--totals", COMMAND_SALVAGE, false, take_totals},
 };
 
 /* Gives the option that a word names, up to its = if it has one. */
@@ -235,34 +257,53 @@ static void take_file(struct request *request, const char *path)
     request->path = path;
 }
 
-/* Says what a command still lacks. */
-static void check_whole(const struct request *request)
+static void check_replay(const struct request *request)
 {
-    const struct writing *writing = &request->writing;
-    if (request->path == NULL)
-        bad_use("no file is named", request->command == COMMAND_REPLAY ? "replay" : "snapshot");
     if (request->snapshots != NULL && strcmp(request->path, "-") == 0 &&
         strcmp(request->snapshots, "-") == 0)
         bad_use("both recordings cannot be standard input", "--snapshots");
-    if (request->command == COMMAND_REPLAY)
-        return;
+}
+
+static void check_snapshot(const struct request *request)
+{
+    const struct writing *writing = &request->writing;
+    check_replay(request);
     if (request->ids_n == 0 || writing->sender == NULL || writing->target == NULL)
         bad_use("it needs --instrument, --sender and --target", "snapshot");
     if (writing->number > writing->of)
         bad_use("it must not be above --of", "--number");
 }
 
-void read_command(struct request *request, int argc, char **argv)
+static void check_salvage(const struct request *request)
 {
-    const char *command = argc < 2 ? "" : argv[1];
-    bool replays = strcmp(command, "replay") == 0, named_files_follow = false;
-    if (!replays && strcmp(command, "snapshot") != 0)
-        bad_use("the command is replay or snapshot", argc < 2 ? "selkavorn" : command);
-    *request = (struct request){.command = replays ? COMMAND_REPLAY : COMMAND_SNAPSHOT,
-                                .depth = SELKAVORN_ORDER_DEPTH,
-                                .limit_s = USUAL_LIMIT_S,
-                                .quote_only = !replays,
-                                .writing = {.number = 1, .of = 1}};
+    if (request->overwrite && request->keep == NULL)
+        bad_use("it needs --keep", "--overwrite");
+    if (request->totals_only && request->form == FORM_CSV)
+        bad_use("it prints no totals", "--csv");
+}
+
+static const struct {
+    const char *name;
+    enum command command;
+    void (*check)(const struct request *request); /* what it still lacks */
+} COMMANDS[] = {
+    {"replay", COMMAND_REPLAY, check_replay},
+    {"snapshot", COMMAND_SNAPSHOT, check_snapshot},
+    {"salvage", COMMAND_SALVAGE, check_salvage},
+};
+
+/* Gives the place of a command among them. */
+static size_t find_command(const char *word)
+{
+    for (size_t i = 0; i < sizeof COMMANDS / sizeof COMMANDS[0]; i++)
+        if (strcmp(COMMANDS[i].name, word) == 0)
+            return i;
+    bad_use("the command is replay, snapshot or salvage", word);
+}
+
+static void take_words(struct request *request, int argc, char **argv)
+{
+    bool named_files_follow = false;
     for (int i = 2; i < argc; i++) {
         if (named_files_follow || argv[i][0] != '-' || argv[i][1] == '\0')
             take_file(request, argv[i]);
@@ -271,5 +312,18 @@ void read_command(struct request *request, int argc, char **argv)
         else
             i = take_option(request, argc, argv, i);
     }
-    check_whole(request);
+}
+
+void read_command(struct request *request, int argc, char **argv)
+{
+    size_t command = find_command(argc < 2 ? "selkavorn" : argv[1]);
+    *request = (struct request){.command = COMMANDS[command].command,
+                                .depth = SELKAVORN_ORDER_DEPTH,
+                                .limit_s = USUAL_LIMIT_S,
+                                .quote_only = COMMANDS[command].command != COMMAND_REPLAY,
+                                .writing = {.number = 1, .of = 1}};
+    take_words(request, argc, argv);
+    if (request->path == NULL)
+        bad_use("no file is named", COMMANDS[command].name);
+    COMMANDS[command].check(request);
 }

@@ -10,9 +10,9 @@
 
 enum { NAME_TEXT = 33 }; /* a name of 32 bytes and its zero byte fit */
 
-enum command { COMMAND_REPLAY = 1, COMMAND_SNAPSHOT = 2 };
+enum command { COMMAND_REPLAY = 1, COMMAND_SNAPSHOT = 2, COMMAND_SALVAGE = 4 };
 
-/* The forms in which quotes are printed. */
+/* The forms in which quotes or pieces are printed; pieces are not as JSON. */
 enum form { FORM_TABLE, FORM_CSV, FORM_JSON };
 
 /* What selkavorn_write takes for a snapshot. */
@@ -33,6 +33,9 @@ struct request {
     enum form form;
     bool quote_only;  /* no line for each message */
     bool pass_resets; /* a sequence reset, seen or lost, does not open the board afresh */
+    bool totals_only; /* no line for each piece */
+    const char *keep; /* a file for the whole messages, or NULL */
+    bool overwrite;   /* it may be there already */
     struct writing writing;
     uint64_t ids[SELKAVORN_MOST_INSTRUMENTS];
     char names[SELKAVORN_MOST_INSTRUMENTS][NAME_TEXT]; /* beside each; "" where none is given */
@@ -40,12 +43,13 @@ struct request {
 };
 
 enum status {
-    STATUS_GOOD = 0,      /* done: a quote is given, or a snapshot written */
-    STATUS_OUTPUT = 1,    /* the output could not be written */
-    STATUS_USE = 2,       /* bad use */
-    STATUS_FILE = 3,      /* a file could not be read, holds no message, or names no instrument */
-    STATUS_NO_QUOTE = 4,  /* no quote could be given of any instrument, or no snapshot written */
-    STATUS_LOST_RESET = 5 /* none is given: a sequence reset was lost */
+    STATUS_GOOD = 0,       /* done: a quote is given, a snapshot written, all salvaged */
+    STATUS_OUTPUT = 1,     /* the output could not be written */
+    STATUS_USE = 2,        /* bad use */
+    STATUS_FILE = 3,       /* a file could not be read, holds no message, or names no instrument */
+    STATUS_NO_QUOTE = 4,   /* no quote could be given of any instrument, or no snapshot written */
+    STATUS_LOST_RESET = 5, /* none is given: a sequence reset was lost */
+    STATUS_DAMAGED = 6     /* bytes of the recording were passed over by a salvage */
 };
 
 /* Reads the command line; ends the program where it is bad. */

@@ -1,29 +1,24 @@
 /* Joins the recordings of the incremental stream and of the snapshot stream. */
 #include "streams.h"
 
-#include <stdio.h>
-#include <string.h>
-
-#include "board.h"
 #include "message.h"
 
-void streams_begin(struct streams *streams, const struct request *request, struct files files)
+void streams_begin(struct streams *streams, const struct request *request, struct files files,
+                   struct progress *progress)
 {
     streams->request = request;
     streams->left_out = 0;
-    recording_begin(&streams->incremental.recording, files.recording);
-    recording_begin(&streams->snapshots.recording, files.snapshots);
+    recording_begin(&streams->incremental.recording, files.recording, progress);
+    recording_begin(&streams->snapshots.recording, files.snapshots, NULL);
     streams->incremental.at_hand = false;
     streams->snapshots.at_hand = files.snapshots < 0;
     streams->snapshots.next = (struct piece){.kind = PIECE_END};
 }
 
-/* Says whether a piece of the snapshot stream is a message that is to be left out. One whose frame
- * or sum is refused is given, so that it is told and looked into. */
-static bool is_left_out(const struct streams *streams, const struct piece *piece)
+/* Says whether a piece of the snapshot stream is a message that is to be left out. */
+static bool is_left_out(const struct piece *piece)
 {
-    return piece->kind == PIECE_MESSAGE && !message_has_type(piece, 'W') &&
-           !may_hold_another(judge(streams->request, piece));
+    return piece->kind == PIECE_MESSAGE && !message_has_type(piece, 'W');
 }
 
 static void bring_incremental(struct stream *stream)
@@ -39,7 +34,7 @@ static void bring_snapshot(struct streams *streams)
     while (!stream->at_hand) {
         recording_next(&stream->recording, &stream->next);
         stream->next.of_snapshots = true;
-        stream->at_hand = !is_left_out(streams, &stream->next);
+        stream->at_hand = !is_left_out(&stream->next);
         streams->left_out += !stream->at_hand;
     }
 }
@@ -68,22 +63,6 @@ void streams_next(struct streams *streams, struct piece *piece)
                               : &streams->incremental;
     *piece = next->next;
     next->at_hand = piece->kind == PIECE_END;
-}
-
-void streams_look_inside(struct streams *streams, const struct piece *message)
-{
-    recording_look_inside(message->of_snapshots ? &streams->snapshots.recording
-                                                : &streams->incremental.recording,
-                          message);
-}
-
-static enum status reading_status(const char *path, int failure)
-{
-    if (failure == 0)
-        return STATUS_GOOD;
-    fflush(stdout);
-    fprintf(stderr, "selkavorn: %s cannot be read: %s\n", path, strerror(failure));
-    return STATUS_FILE;
 }
 
 enum status streams_status(const struct streams *streams)

@@ -8,14 +8,8 @@
 #ifndef STREAMS_H
 #define STREAMS_H
 
+#include "files.h"
 #include "recording.h"
-#include "request.h"
-
-/* The open files. */
-struct files {
-    int recording;
-    int snapshots; /* or -1 */
-};
 
 struct stream {
     struct recording recording;
@@ -29,14 +23,12 @@ struct streams {
     uint64_t left_out; /* messages of the snapshot stream that are no snapshots */
 };
 
-/* Starts at the first bytes of the open files. */
-void streams_begin(struct streams *streams, const struct request *request, struct files files);
+/* Starts at the first bytes of the open files. The progress is that of the first. */
+void streams_begin(struct streams *streams, const struct request *request, struct files files,
+                   struct progress *progress);
 
 /* Gives the next piece. */
 void streams_next(struct streams *streams, struct piece *piece);
-
-/* As recording_look_inside, for the message just given. */
-void streams_look_inside(struct streams *streams, const struct piece *message);
 
 /* Says on standard error which file could not be read, if one could not. */
 enum status streams_status(const struct streams *streams);

@@ -1,0 +1,80 @@
+/* What --help prints. */
+#include "help.h"
+
+#include <stdio.h>
+
+static const char COMMANDS[] =
+    "selkavorn replay [options] FILE\n"
+    "selkavorn snapshot --instrument ID --sender NAME --target NAME [options] FILE\n"
+    "selkavorn salvage [options] FILE\n"
+    "\n"
+    "replay feeds a recording of one channel to a fresh board. It prints a line for\n"
+    "each message, and then the quotes of all instruments, each with its date: the\n"
+    "sending time of the last message that was counted. snapshot feeds it likewise,\n"
+    "and writes the book of one instrument as a snapshot message (W). salvage feeds\n"
+    "nothing: it tells where the whole messages of a damaged recording stand, and\n"
+    "which bytes between them are passed over.\n"
+    "\n"
+    "FILE holds messages end to end, - is standard input: the incremental stream,\n"
+    "and the snapshots (W) of its snapshot stream if they are not in a file of their\n"
+    "own. For replay and snapshot it must not hold the heartbeats of the snapshot\n"
+    "stream: their numbers would be counted.\n";
+
+static const char OPTIONS[] =
+    "\n"
+    "replay and snapshot:\n"
+    "  --depth order|price    kind of the channel; order unless given\n"
+    "  --snapshots FILE       a recording of the snapshot stream: its snapshots are\n"
+    "                         fed by their times, its other messages left out\n"
+    "  --resets open|pass     at a sequence reset (35=4), also one that was lost,\n"
+    "                         open the board afresh, or not; open unless given\n"
+    "  --silence SECONDS      take a longer silence before the very next number for a\n"
+    "                         lost reset, 1 to 86400; none is unless given\n"
+    "replay:\n"
+    "  --instruments ID[=NAME][,ID[=NAME]..]\n"
+    "                         1 to 16 SecurityIDs to follow; unless given, those\n"
+    "                         that the recording names, which is then read twice\n"
+    "  --now MOMENT           when the quotes are to be used, in UTC, as\n"
+    "                         20250103-13:00:00 or 20250103-13:00:00.000; unless\n"
+    "                         given, the last moment in the recording\n"
+    "  --limit SECONDS        give no quote that is older than this at that moment,\n"
+    "                         0 to 86400; 30 unless given\n"
+    "  --quote                print no line for each message\n"
+    "  --csv, --json          print the quotes alone, for a program\n"
+    "snapshot:\n"
+    "  --instrument ID        the instrument's SecurityID\n"
+    "  --sender NAME          tag 49, 1 to 16 bytes\n"
+    "  --target NAME          tag 56, likewise\n"
+    "  --number K, --of M     tags 34 and 911, 1 to 16; 1 and 1 unless given\n"
+    "  --time MOMENT          tag 52; unless given, the heard moment\n"
+    "salvage:\n"
+    "  --keep OUT             write the whole messages end to end to a new file\n"
+    "  --overwrite            replace OUT where it is there\n"
+    "  --totals               print the totals alone\n"
+    "  --csv                  print a row for each piece and no totals, for a program\n"
+    "\n"
+    "  -h, --help             print this\n"
+    "  --version              print the version\n"
+    "An option's value may also follow a =, as in --limit=10. -- ends the options.\n";
+
+static const char STATUSES[] =
+    "\n"
+    "The computer's clock is never read. For quotes to sell by, give the present:\n"
+    "  --now $(date -u +%Y%m%d-%H:%M:%S)\n"
+    "\n"
+    "Exit status:\n"
+    "  0  a quote is given of one instrument at least; the snapshot is written; or\n"
+    "     the recording is salvaged, and no byte was passed over\n"
+    "  1  the output, or OUT, could not be written\n"
+    "  2  bad use, also where more than 16 instruments are named to choose from\n"
+    "  3  a file could not be read, holds no message, or names no instrument\n"
+    "  4  no quote could be given, or no snapshot written\n"
+    "  5  none is given: a sequence reset was lost, and --resets is pass\n"
+    "  6  the recording is salvaged, and bytes were passed over\n";
+
+void print_help(void)
+{
+    fputs(COMMANDS, stdout);
+    fputs(OPTIONS, stdout);
+    fputs(STATUSES, stdout);
+}
