@@ -361,8 +361,9 @@ uint64_t selkavorn_board(const uint64_t *store, size_t store_n, uint64_t *out, s
  * again with from = out[SELKAVORN_SALVAGE_NEXT], and the pieces of all calls are those of one. That
  * number is above `from` unless `from` is rec_n.
  * Where only the front of a recording is at hand: a message that was found stays one, and a byte
- * was rightly passed over if SELKAVORN_LONGEST_MESSAGE bytes from it on are at hand. Go on from the
- * first byte of which that is not known, with more behind it, and join the runs that then touch. */
+ * was rightly passed over if SELKAVORN_LONGEST_MESSAGE bytes from it on are at hand, or if those at
+ * hand differ from the beginning of every message, 8=FIX.4.4, SOH, 9=. Go on from the first byte of
+ * a run of which that is not known, with more behind it, and join the runs that then touch. */
 uint64_t selkavorn_salvage(const uint8_t *rec, size_t rec_n, uint64_t from, uint64_t *out,
                            size_t out_n);
 
