@@ -1,22 +1,23 @@
 -- What is shown of the walk of a recording. Assumes nothing.
 use mathlib.Core.Path.{_≡_, refl, ap, _∙_}
-use mathlib.Core.List.{List, [], _∷_, _++_}
+use mathlib.Core.List.{List, [], _∷_, _++_, map}
 use mathlib.Core.Bool.{Bool, true, false, cond}
 use Prim.Native.Nat.{ℕ, _+_, _-_, _*_, _≤_, _<_}
 use native.Mathlib.Omega.{arith}
 use borrow.Author.Tests.{leb-true, le-ltb}
 use lib.Dec.{leb}
-use lib.ListN.{length, getD, take, drop, length-append}
+use lib.ListN.{length, getD, drop, length-append, length-map}
 use lib.Seq.{sets-eq, take-append-seam, drop-append-seam, take-at}
 use Rattle.digits.proofs.Width.{both}
 use Rattle.frame.specs.Frames.{frameOf}
 use Rattle.stretch.specs.Stretches.{passes, Taken}
 use Rattle.stretch.proofs.Stretching.{taken-stretch}
 use Rattle.salvage.specs.Pieces.{Piece, message, passed, walkOf, pieces, laid, endToEnd, allPass}
-use Rattle.salvage.specs.Rooms.{fitting, given, goOn, cells, told, refused, walkOut}
-use Rattle.salvage.specs.Laws.{WalkIsWhole, AllAreFound, RoomSays}
+use Rattle.salvage.specs.Rooms.{fitting, given, goOn, cells, told, refused, walkOut, walks, wide, saidIn, calls}
+use Rattle.salvage.specs.Laws.{WalkIsWhole, AllAreFound, RoomSays, CallsJoined}
 use Rattle.salvage.proofs.Stepping.{message-of}
 use Rattle.salvage.proofs.Walking.{taken-some, walk-is, walk-only, walk-tiles, walk-apart, walk-good, tiles-once}
+use Rattle.salvage.proofs.Joining.{walk-gets-on, end-is-reached, walks-joined}
 
 pub walk-is-whole : WalkIsWhole
 walk-is-whole rec from l =
@@ -89,8 +90,22 @@ module _ (rec : List ℕ) (from : ℕ) (out : List ℕ) (l : from ≤ length rec
       let n : 0 + length vs ≡ 2 + 3 * length gs = omega (arith, cells-length gs) in
       rw r (sets-eq vs out 0 (omega (arith, cells-length gs, given-fits)) ∙ ap (λ (k : ℕ). vs ++ drop k out) n)
 
-  walk-tells : told (take (3 * getD (walkOut rec from out) 1 0) (drop 2 (walkOut rec from out))) ≡ gs
+  walk-tells : saidIn (walkOut rec from out) ≡ gs
   walk-tells = rw (walk-leaves) (ap told (take-at (cells gs) (drop (2 + 3 * length gs) out) (3 * length gs) (cells-length gs)) ∙ told-cells gs)
 
 pub room-says : RoomSays
 room-says rec from room l h = record { numbers = walk-leaves rec from room l h; says = walk-tells rec from room l h }
+
+calls-walks : (rec : List ℕ) (from : ℕ) (rooms : List (List ℕ)) → from ≤ length rec → wide (map length rooms) ≡ true
+    → calls rec from rooms ≡ walks rec from (map length rooms)
+calls-walks rec from [] l w = refl
+calls-walks rec from (room ∷ rooms) l w =
+    let d = both (leb 5 (length room)) (wide (map length rooms)) w in
+    let x = room-says rec from room l (leb-true 5 (length room) (d .0)) in
+    let n : getD (walkOut rec from room) 0 0 ≡ goOn rec from (length room) = ap (λ (o : List ℕ). getD o 0 0) (x .numbers) in
+    rw (x .says, n, calls-walks rec (goOn rec from (length room)) rooms (walk-gets-on rec from (length room) l .inside) (d .1))
+
+pub calls-joined : CallsJoined
+calls-joined rec from rooms l w h =
+    let e = end-is-reached rec from (map length rooms) l w (omega (arith, length-map rooms length)) in
+    calls-walks rec from rooms l w ∙ walks-joined rec from (map length rooms) l e

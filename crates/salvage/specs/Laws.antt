@@ -1,14 +1,14 @@
 -- What is shown of the walk of a recording.
 use Prim.Native.Nat.{ℕ, _+_, _*_, _≤_, _<_}
 use mathlib.Core.Path.{_≡_}
-use mathlib.Core.List.{List, _∷_, _++_}
+use mathlib.Core.List.{List, _∷_, _++_, map}
 use mathlib.Core.Bool.{true}
-use lib.ListN.{length, getD, take, drop}
+use lib.ListN.{length, take, drop}
 use Rattle.frame.specs.Frames.{frameOf}
 use Rattle.stretch.specs.Stretches.{passes}
 use Rattle.stretch.specs.Windows.{decided}
 use Rattle.salvage.specs.Pieces.{Piece, Walk, pieces, Tiles, times, apart, Messages, laid, endToEnd, allPass}
-use Rattle.salvage.specs.Rooms.{spanned, given, goOn, cells, told, walkOut, walks, reached, wide, join}
+use Rattle.salvage.specs.Rooms.{spanned, given, goOn, cells, walkOut, walks, reached, wide, join, saidIn, calls}
 use Rattle.salvage.specs.Windows.{sure}
 
 -- ---- the whole walk
@@ -56,10 +56,16 @@ pub record Left (rec : List ℕ) (from : ℕ) (room : List ℕ) : Type 0 where
       walkOut rec from room
       ≡ (goOn rec from (length room) ∷ length (given rec from (length room)) ∷ cells (given rec from (length room)))
       ++ drop (2 + 3 * length (given rec from (length room))) room
-  pub says : told (take (3 * getD (walkOut rec from room) 1 0) (drop 2 (walkOut rec from room))) ≡ given rec from (length room)
+  pub says : saidIn (walkOut rec from room) ≡ given rec from (length room)
 
 abbrev pub RoomSays : Type 0
 RoomSays = (rec : List ℕ) (from : ℕ) (room : List ℕ) → from ≤ length rec → 5 ≤ length room → Left rec from room
+
+-- So calls in rooms of 5 numbers and more, as many as there are bytes, say the one walk.
+abbrev pub CallsJoined : Type 0
+CallsJoined =
+    (rec : List ℕ) (from : ℕ) (rooms : List (List ℕ)) → from ≤ length rec → wide (map length rooms) ≡ true → length rec ≤ from + length rooms
+    → calls rec from rooms ≡ pieces rec from
 
 -- ---- a window at a time
 -- What is sure of a window, joined with the walk of the whole from there on, is the walk of the whole; and the window gets on where its

@@ -1,10 +1,10 @@
 -- A walk in lent room (document 02, K12). Assumes nothing.
-use Prim.Native.Nat.{ℕ, _+_, _-_, _≤_}
+use Prim.Native.Nat.{ℕ, _+_, _-_, _*_, _≤_}
 use mathlib.Core.Path.{_≡_}
 use mathlib.Core.List.{List, [], _∷_, _++_}
 use mathlib.Core.Bool.{Bool, true, cond, _&&_, _||_}
 use lib.Dec.{leb, ltb, eqb}
-use lib.ListN.{length}
+use lib.ListN.{length, getD, take, drop}
 use lib.Seq.{sets}
 use Rattle.stretch.specs.Stretches.{stretchAt}
 use Rattle.salvage.specs.Pieces.{Piece, message, passed, lengthOf, pieces}
@@ -89,6 +89,16 @@ reached rec from (room ∷ rooms) = reached rec (goOn rec from room) rooms
 abbrev pub wide : List ℕ → Bool
 wide [] = true
 wide (room ∷ rooms) = leb 5 room && wide rooms
+
+-- ---- the same by what calls leave in the rooms that are lent for them
+-- the pieces that a room says
+abbrev pub saidIn : List ℕ → List Piece
+saidIn out = told (take (3 * getD out 1 0) (drop 2 out))
+
+-- each call goes on at the byte that the room before says
+abbrev pub calls : List ℕ → ℕ → List (List ℕ) → List Piece
+calls rec from [] = []
+calls rec from (room ∷ rooms) = join (saidIn (walkOut rec from room)) (calls rec (getD (walkOut rec from room) 0 0) rooms)
 
 -- ---- as the code goes
 -- the first piece from a place on, as numbers, and the length of the message that is taken behind it, or 0
