@@ -8,6 +8,7 @@ from results import (DEPTHS, EVEN, MACHINES, MIXED, MOST_SPREAD, SCANS, STARTS, 
 
 CALLS = ("open", "feed", "quote", "write", "state", "board", "salvage")
 MOST_STACK = 24576  # bytes
+MOST_NAMED = 12  # rows that were not steady and are named one by one
 
 # Aims on times, where none waits: what each says, of which cases, what is compared, and whether a ratio is good.
 AIMS = (
@@ -244,9 +245,14 @@ def machines(runs, stale):
 
 
 def noise(runs):
+    """The rows that were not steady, by name where they are few."""
     for run in runs:
         names = [f"{row_name(case, what)} ({spread(ns):.1%})" for case, what, ns in run.noisy()]
-        if names:
+        if len(names) > MOST_NAMED:
+            yield (f"**On {run.machine} the spread is above {MOST_SPREAD:.0%} in {len(names)} of {len(run.times)} rows: the machine was "
+                   "not quiet.** Its times are rough, each with its lowest and highest beside it; the counts of instructions are not "
+                   "touched by that.\n")
+        elif names:
             yield f"On {run.machine} the spread is above {MOST_SPREAD:.0%} in: " + "; ".join(names) + ".\n"
 
 

@@ -89,6 +89,14 @@ class Report(unittest.TestCase):
         noisy = made(changed={(SCANS, "loop"): [95.0, 100.0, 106.0], (SCANS, "scan"): [95.0, 100.0, 104.0]}).noisy()
         self.assertEqual([(case, what) for case, what, _ in noisy], [(SCANS, "loop")])
 
+    def test_many_rows_that_are_not_steady_are_counted(self):
+        few = {(SCANS, what): [80.0, 100.0, 120.0] for what in ("loop", "scan")}
+        text = "\n".join(page("v1", [made(changed=few)]))
+        self.assertIn("is above 10% in: ", text)
+        many = {(of, what): [80.0, 100.0, 120.0] for of, what in made().times if what == "parse"}
+        text = "\n".join(page("v1", [made(changed=many)]))
+        self.assertIn(f"is above 10% in {len(many)} of {len(made().times)} rows", text)
+
     def test_each_machine_has_its_columns(self):
         text = "\n".join(page("v1", [made("x86_64"), made("aarch64")]))
         self.assertIn("x86_64: ns", text)
