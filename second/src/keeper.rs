@@ -1,4 +1,4 @@
-//! The six calls, with the checks of their arguments (17, then 18) before all others.
+//! The six calls on a store, with the checks of their arguments (17, then 18) before all others.
 
 use crate::answer::*;
 use crate::book::Depth;

@@ -39,7 +39,7 @@ const SOH: u8 = 1;
 
 const MOST_BYTES: usize = 8192;
 // 8=FIX.4.4 and its SOH
-const BEGIN_BYTES: usize = 10;
+pub const BEGIN_BYTES: usize = 10;
 // 10=, three digits and SOH
 pub const TRAILER_BYTES: usize = 7;
 
@@ -99,7 +99,7 @@ fn field_of(s: &[u8], at: usize, tag: u64) -> Step
 }
 
 // Whether 8=FIX.4.4 stands first.
-fn begins(s: &[u8]) -> bool
+pub fn begins(s: &[u8]) -> bool
     ensures { λ r. ⌜ r ≡ equal (take 10 (now (s .entry))) preamble ⌝ }
 {
     if s.len() < BEGIN_BYTES {

@@ -8,7 +8,7 @@ use Rattle.frame.specs.Frames.{frameOf}
 use Rattle.stretch.specs.Stretches.{passes}
 use Rattle.stretch.specs.Windows.{decided}
 use Rattle.salvage.specs.Pieces.{Piece, Walk, pieces, Tiles, times, apart, Messages, laid, endToEnd, allPass}
-use Rattle.salvage.specs.Rooms.{spanned, given, goOn, cells, walkOut, walks, reached, wide, join, saidIn, calls}
+use Rattle.salvage.specs.Rooms.{spanned, given, goOn, cells, leastRoom, walkOut, walks, reached, wide, join, saidIn, calls}
 use Rattle.salvage.specs.Windows.{sure}
 
 -- ---- the whole walk
@@ -35,7 +35,7 @@ AllAreFound = (ms : List (List ℕ)) → allPass ms ≡ true → pieces (endToEn
 -- A walk goes on inside the recording, and always gets on.
 pub record Step (rec : List ℕ) (from room : ℕ) : Type 0 where
   pub inside : goOn rec from room ≤ length rec
-  pub on : 5 ≤ room → from < length rec → from < goOn rec from room
+  pub on : leastRoom ≤ room → from < length rec → from < goOn rec from room
 
 abbrev pub WalkGetsOn : Type 0
 WalkGetsOn = (rec : List ℕ) (from room : ℕ) → from ≤ length rec → Step rec from room
@@ -59,7 +59,7 @@ pub record Left (rec : List ℕ) (from : ℕ) (room : List ℕ) : Type 0 where
   pub says : saidIn (walkOut rec from room) ≡ given rec from (length room)
 
 abbrev pub RoomSays : Type 0
-RoomSays = (rec : List ℕ) (from : ℕ) (room : List ℕ) → from ≤ length rec → 5 ≤ length room → Left rec from room
+RoomSays = (rec : List ℕ) (from : ℕ) (room : List ℕ) → from ≤ length rec → leastRoom ≤ length room → Left rec from room
 
 -- So calls in rooms of 5 numbers and more, as many as there are bytes, say the one walk.
 abbrev pub CallsJoined : Type 0

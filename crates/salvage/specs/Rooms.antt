@@ -44,9 +44,13 @@ told (kind ∷ []) = []
 told (kind ∷ p ∷ []) = []
 told (kind ∷ p ∷ n ∷ xs) = cond (eqb kind 0) (passed p n) (message p n) ∷ told xs
 
--- 18: there is no such place, or the room holds fewer than 5 numbers
+-- the two numbers before the pieces, and one piece
+abbrev pub leastRoom : ℕ
+leastRoom = 5
+
+-- 18: there is no such place, or the room holds fewer numbers than that
 abbrev pub refused : List ℕ → ℕ → ℕ → Bool
-refused rec from room = ltb (length rec) from || ltb room 5
+refused rec from room = ltb (length rec) from || ltb room leastRoom
 
 unfoldable pub walkAnswer : List ℕ → ℕ → List ℕ → ℕ
 walkAnswer rec from out = cond (refused rec from (length out)) 18 0
@@ -85,10 +89,10 @@ abbrev pub reached : List ℕ → ℕ → List ℕ → ℕ
 reached rec from [] = from
 reached rec from (room ∷ rooms) = reached rec (goOn rec from room) rooms
 
--- every room has five numbers
+-- every room holds enough for one piece
 abbrev pub wide : List ℕ → Bool
 wide [] = true
-wide (room ∷ rooms) = leb 5 room && wide rooms
+wide (room ∷ rooms) = leb leastRoom room && wide rooms
 
 -- ---- the same by what calls leave in the rooms that are lent for them
 -- the pieces that a room says

@@ -6,7 +6,7 @@ ghost use mathlib.Core.List.{_∷_, []};
 ghost use lib.ListN.{length};
 ghost use lib.Seq.{sets};
 ghost use Rattle.stretch.specs.Stretches.{stretchAt};
-ghost use Rattle.salvage.specs.Rooms.{First, Filled, Salvaged};
+ghost use Rattle.salvage.specs.Rooms.{leastRoom, First, Filled, Salvaged};
 
 const DONE: u64 = 0;
 // 18: there is no such place, or too little room.
@@ -70,7 +70,7 @@ fn put(out: &mut [u64], at: usize, kind: u64, start: usize, bytes: usize)
 
 // The pieces from a place on, as many as fit, from the third number of the room on.
 fn fill(rec: &[u8], from: usize, out: &mut [u64]) -> Stop
-    requires { ⌜ (from ≤ length (now rec)) × (5 ≤ length (now out)) ⌝ }
+    requires { ⌜ (from ≤ length (now rec)) × (leastRoom ≤ length (now out)) ⌝ }
     ensures { λ r. ⌜ Filled (now (rec .entry)) from (now (out .entry)) (now (out .exit)) (r .at) (r .count) ⌝ }
 {
     let n = rec.len();

@@ -8,8 +8,8 @@ use borrow.Author.Tests.{leb-true, leb-false, lt-leb}
 use lib.Dec.{leb, eqb}
 use lib.ListN.{length, drop, length-append, length-drop, drop-of-length-le}
 use lib.Seq.{take-append-le, drop-append-le}
-use Rattle.stretch.specs.Stretches.{Taken, stretchOf, stretchAt}
-use Rattle.stretch.specs.Windows.{beginning, agrees, longest, decided}
+use Rattle.stretch.specs.Stretches.{Taken, longest, stretchOf, stretchAt}
+use Rattle.stretch.specs.Windows.{beginning, agrees, decided}
 use Rattle.stretch.specs.Laws.{Only, OneStretch, FoundIsTaken, Kept, MoreKeeps}
 use Rattle.stretch.proofs.Stretching.{taken-named, one-stretch, taken-stretch, stretch-taken, none-taken, too-short}
 

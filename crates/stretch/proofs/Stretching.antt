@@ -22,7 +22,7 @@ use Rattle.frame.specs.ByPlace.{preamble}
 use Rattle.frame.specs.declared.Framed.{Framed}
 use Rattle.frame.proofs.Well.{Well, tags, nine-fair, whole-is, whole-length, inner-length, count-back}
 use Rattle.frame.proofs.Framing.{Held, frame-cases}
-use Rattle.stretch.specs.Stretches.{passes, Taken, namedOf, ifTaken, stretchOf, stretchAt}
+use Rattle.stretch.specs.Stretches.{passes, Taken, longest, namedOf, ifTaken, stretchOf, stretchAt}
 use Rattle.stretch.specs.Windows.{beginning, agrees}
 
 -- ---- what passes holds but for its type
@@ -93,7 +93,7 @@ module _ (t c : List ℕ) (body : List Field) (v : ℕ) (x : Well t c body v) wh
 -- ---- a stretch that is taken
 pub record Bounds (s : List ℕ) (n : ℕ) : Type 0 where
   pub low : 26 ≤ n
-  pub high : n ≤ 8192
+  pub high : n ≤ longest
   pub name : namedOf (take 18 s) ≡ n
   pub rest : List ℕ
   pub begins : s ≡ beginning ++ rest

@@ -4,14 +4,14 @@ use mathlib.Core.Path.{_≡_}
 use mathlib.Core.Bool.{true}
 use mathlib.Core.List.{List, _++_}
 use lib.ListN.{take}
-use Rattle.stretch.specs.Stretches.{Taken, namedOf, stretchOf, stretchAt}
+use Rattle.stretch.specs.Stretches.{Taken, longest, namedOf, stretchOf, stretchAt}
 use Rattle.stretch.specs.Windows.{decided}
 
 -- There is at most one at the start of s: the one that tag 9 names, of 26 to 8,192 bytes; and it is what is found.
 pub record Only (s : List ℕ) (n : ℕ) : Type 0 where
   pub named : namedOf (take 18 s) ≡ n
   pub low : 26 ≤ n
-  pub high : n ≤ 8192
+  pub high : n ≤ longest
   pub others : (m : ℕ) → Taken s m → m ≡ n
   pub found : stretchOf s ≡ n
 

@@ -25,6 +25,10 @@ pub record Taken (s : List ℕ) (n : ℕ) : Type 0 where
   pub inside : n ≤ length s
   pub good : passes (frameOf (take n s)) ≡ true
 
+-- no such stretch has more bytes
+abbrev pub longest : ℕ
+longest = 8192
+
 -- the n bytes from p on
 abbrev pub taken : List ℕ → ℕ → ℕ → Type 0
 taken rec p n = Taken (drop p rec) n

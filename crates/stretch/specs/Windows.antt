@@ -5,6 +5,7 @@ use mathlib.Core.Bool.{Bool, true, not, _&&_, _||_}
 use lib.Dec.{leb, eqb}
 use lib.ListN.{length, drop}
 use Rattle.frame.specs.ByPlace.{preamble}
+use Rattle.stretch.specs.Stretches.{longest}
 
 -- 8=FIX.4.4, SOH and 9=, as every message begins
 abbrev pub beginning : List ℕ
@@ -15,10 +16,6 @@ abbrev pub agrees : List ℕ → List ℕ → Bool
 agrees [] ys = true
 agrees (x ∷ xs) [] = true
 agrees (x ∷ xs) (y ∷ ys) = eqb x y && agrees xs ys
-
--- no stretch has more bytes
-abbrev pub longest : ℕ
-longest = 8192
 
 -- Whether a message is taken at a place is decided if so many bytes from it on are at hand, or if those at hand do not begin as a
 -- message does.

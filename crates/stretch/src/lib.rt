@@ -10,10 +10,8 @@ use chain::Step;
 use digits::Number;
 use frame::Framed;
 
-// 8=FIX.4.4 and its SOH
-const BEGIN_BYTES: usize = 10;
-// and 9= with five digits and its SOH
-const HEAD_BYTES: usize = 18;
+// 8=FIX.4.4 and its SOH, 9= with five digits and its SOH
+const HEAD_BYTES: usize = frame::BEGIN_BYTES + 8;
 
 // Where a run of passed bytes ends, and the length of the message that is taken there, or 0.
 pub struct Gap {
@@ -26,10 +24,10 @@ fn named(h: &[u8]) -> usize
     requires { ⌜ length (now h) ≡ 18 ⌝ }
     ensures { λ r. ⌜ r ≡ namedOf (now (h .entry)) ⌝ }
 {
-    if !frame::same(&h[0..BEGIN_BYTES], b"8=FIX.4.4\x01") {
+    if !frame::begins(h) {
         return 0;
     }
-    let Step::Is { tag, from, to } = chain::field(h, BEGIN_BYTES) else {
+    let Step::Is { tag, from, to } = chain::field(h, frame::BEGIN_BYTES) else {
         return 0;
     };
     if tag != 9 {

@@ -9,24 +9,12 @@ use borrow.Author.Needs.{needs}
 use Rattle.stretch.proofs.named.Statement.{statement}
 use Rattle.stretch.proofs.named.Tie as tie
 
-sub-same : tie.Need-sub-same
-sub-same c = search needs
-
-part-same-start : tie.Need-part-same-start
-part-same-start c = search needs
-
-part-same-end : tie.Need-part-same-end
-part-same-end c = search needs
-
-slice-aggregate-same : tie.Need-slice-aggregate-same
-slice-aggregate-same c = search needs
-
-same-requires : tie.Need-same-requires
-same-requires c κs = search needs
+begins-requires : tie.Need-begins-requires
+begins-requires c κs = search needs
 
 returns : tie.Need-returns
 unfolding namedOf
-returns c = rw (sym (c .before .same .ensures) ∙ not-true (c .before .same .result) (c .if1 .taken))
+returns c = rw (sym (c .before .begins .ensures) ∙ not-true (c .before .begins .result) (c .if1 .taken))
 
 field-requires : tie.Need-field-requires
 field-requires c κs = search needs
@@ -42,7 +30,7 @@ unfolding namedOf
 returns-2 c =
     let d = c .before .before .before in
     rw (
-      sym (d .before .same .ensures) ∙ not-false (d .before .same .result) (d .if1 .left),
+      sym (d .before .begins .ensures) ∙ not-false (d .before .begins .result) (d .if1 .left),
       sym (c .before .before .field .ensures) ∙ c .enum-told .given .1,
     )
 
@@ -52,7 +40,7 @@ returns-3 c =
     let e = c .before .before in
     let d = e .before .before .before in
     rw (
-      sym (d .before .same .ensures) ∙ not-false (d .before .same .result) (d .if1 .left),
+      sym (d .before .begins .ensures) ∙ not-false (d .before .begins .result) (d .if1 .left),
       sym (e .before .before .field .ensures) ∙ e .tag .given .1,
       ne-eqb _ _ (c .if2 .taken),
     )
@@ -91,7 +79,7 @@ returns-4 c =
     let e = g .before .before in
     let d = e .before .before .before in
     rw (
-      sym (d .before .same .ensures) ∙ not-false (d .before .same .result) (d .if1 .left),
+      sym (d .before .begins .ensures) ∙ not-false (d .before .begins .result) (d .if1 .left),
       sym (e .before .before .field .ensures) ∙ e .tag .given .1,
       eq-eqb _ _ (g .if2 .left),
       sym (c .before .before .whole .ensures) ∙ c .enum-told2 .given .1,
@@ -128,7 +116,7 @@ returns-5 c =
     let e = g .before .before in
     let d = e .before .before .before in
     rw (
-      sym (d .before .same .ensures) ∙ not-false (d .before .same .result) (d .if1 .left),
+      sym (d .before .begins .ensures) ∙ not-false (d .before .begins .result) (d .if1 .left),
       sym (e .before .before .field .ensures) ∙ e .tag .given .1,
       eq-eqb _ _ (g .if2 .left),
       sym (a .before .before .whole .ensures) ∙ a .count .given .1,
@@ -138,11 +126,7 @@ pub named-spec : {M : Type 1} → statement M
 named-spec =
     tie.close
     (tie.spec
-    sub-same
-    part-same-start
-    part-same-end
-    slice-aggregate-same
-    same-requires
+    begins-requires
     returns
     field-requires
     enum-known-tag
