@@ -1,6 +1,7 @@
-/* Selkavorn 1.1: keeps the order books of one exchange channel and gives dated quotes.
+/* Selkavorn 1.2: keeps the order books of one exchange channel and gives dated quotes.
  *
- * This is the only header. The functions are proved, and stand in libselkavorn.a (x86-64 Linux).
+ * This is the header of the books. The functions are proved, and stand in libselkavorn.a (x86-64
+ * Linux). selkavorn_lots.h, in the same archive, has what a quantity brings down a book.
  * What follows is enough to use them; docs/RULES.md has every rule to the last byte, in sections
  * whose names are given here in quotes.
  *
@@ -113,9 +114,9 @@ extern "C" {
 /* The version: of this header and of the archive that it came with. The first number changes when a
  * program that was right may have to change, the second when something is added. */
 #define SELKAVORN_VERSION_MAJOR 1
-#define SELKAVORN_VERSION_MINOR 1
+#define SELKAVORN_VERSION_MINOR 2
 #define SELKAVORN_VERSION_PATCH 0
-#define SELKAVORN_VERSION "1.1.0"
+#define SELKAVORN_VERSION "1.2.0"
 
 #define SELKAVORN_STORE_NUMBERS 7168     /* numbers that a store has at least */
 #define SELKAVORN_QUOTE_NUMBERS 17       /* numbers that a quote writes */
@@ -140,7 +141,7 @@ enum selkavorn_depth {
 
 /* The answer numbers, in the order in which they are checked, and what a caller does on each. */
 enum selkavorn_answer {
-    /* Counted in order; or a quote, writing, state, board, opening or walk is done. Go on. */
+    /* Counted in order; or a quote, writing, state, board, lot, opening or walk is done. Go on. */
     SELKAVORN_DONE = 0,
     /* Counted after a gap: all wait. Give no quote; go on, and see that snapshots come. */
     SELKAVORN_GAP = 1,
@@ -190,7 +191,9 @@ enum selkavorn_answer {
     /* The heard moment is further back than the limit: the line is silent. There is no quote. */
     SELKAVORN_AGE_ABOVE = 24,
     /* The message does not fit the room. Lend SELKAVORN_LONGEST_WRITING bytes. */
-    SELKAVORN_OUTPUT = 25
+    SELKAVORN_OUTPUT = 25,
+    /* Of selkavorn_lots.h: a sum does not fit a signed 64-bit number. Ask for a smaller lot. */
+    SELKAVORN_SUM_OVER = 35
 };
 
 /* The two numbers in what selkavorn_feed and selkavorn_write answer. */
@@ -226,6 +229,7 @@ static inline const char *selkavorn_answer_text(uint64_t answer)
     case SELKAVORN_AGE_BELOW: return "now is before the heard time";
     case SELKAVORN_AGE_ABOVE: return "too old";
     case SELKAVORN_OUTPUT: return "output too short for the message";
+    case SELKAVORN_SUM_OVER: return "a sum does not fit 64 bits";
     default: return "an answer that this version does not know";
     }
 }
