@@ -6,6 +6,7 @@ use Rattle.ask.specs.Laws.{RefusedCarriesZeros, QuoteSettled, StateSettl
 
 pub refused-carries-zeros : RefusedCarriesZeros
 refused-carries-zeros depth (Quoted.Is q) e = absurd (true≢false e)
+refused-carries-zeros depth Quoted.Unsound e = refl
 refused-carries-zeros depth Quoted.BadArgument e = refl
 refused-carries-zeros depth Quoted.NotFollowed e = refl
 refused-carries-zeros depth Quoted.Waiting e = refl

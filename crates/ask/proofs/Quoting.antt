@@ -87,6 +87,10 @@ module _ (id : ℕ) (now : List ℕ) (limit : ℕ) (room xs : List ℕ) where
     unfolding quoteAnswer quoteOut
     asked h r n = let e = le-leb 17 (length room) h in record { answer = n ∙ rw (s, e); out = rw (s, e, n) }
 
+-- a refusal leaves the room
+pub stays : (depth r : ℕ) (q : Quoted) (room : List ℕ) → r ≡ quoteNumber q → eqb (quoteNumber q) 0 ≡ false → room ≡ roomAfter r (quoteValues depth q) room
+stays depth r q room e h = rw (e, h)
+
 -- the room after a quote, by its depth kind and the quote
 pub room-by : (answer : ℕ) (room : List ℕ) {d k : ℕ} {q p : Quoted} → d ≡ k → q ≡ p → roomAfter answer (quoteValues d q) room ≡ roomAfter answer (quoteValues k p) room
 room-by answer room h g = cc

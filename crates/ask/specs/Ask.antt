@@ -20,6 +20,7 @@ use Rattle.quote.specs.declared.Top.{Top}
 use Rattle.quote.specs.declared.Quote.{Quote}
 use Rattle.quote.specs.declared.Quoted.{Quoted}
 use Rattle.quote.specs.Quotes.{quoteOf}
+pub use Rattle.quote.specs.Quotes.{quoteNumber}
 
 -- With 0 the values stand at the start of the room; a refusal writes nothing there.
 abbrev pub roomAfter : ℕ → List ℕ → List ℕ → List ℕ
@@ -31,7 +32,7 @@ roomAfter answer values room = cond (eqb answer 0) (sets room 0 values) room
 abbrev pub quoteSize : ℕ
 quoteSize = 17
 
--- A price as its 64 bits, two's complement.
+-- A price or a sum as its 64 bits, two's complement.
 unfoldable pub bitsOf : ℤ → ℕ
 bitsOf (pos n) = n
 bitsOf (negsuc n) = 2 ^ 64 - (n + 1)
@@ -58,19 +59,10 @@ topWords depth Top.Empty = zeros 7
 abbrev pub quoteWords : ℕ → Quote → List ℕ
 quoteWords depth q = q .number ∷ momentWords (q .heard) ++ (topWords depth (q .bid) ++ topWords depth (q .offer))
 
--- Document 01's number of each case of a quote.
-abbrev pub quoteNumber : Quoted → ℕ
-quoteNumber (Quoted.Is q) = 0
-quoteNumber Quoted.BadArgument = 18
-quoteNumber Quoted.NotFollowed = 20
-quoteNumber Quoted.Waiting = 21
-quoteNumber Quoted.NothingHeard = 22
-quoteNumber Quoted.BeforeHeard = 23
-quoteNumber Quoted.TooOld = 24
-
--- And the values of each case: a refused quote carries zeros.
+-- Beside the number of each case of a quote (`quoteNumber`), its values: a refused quote carries zeros.
 abbrev pub quoteValues : ℕ → Quoted → List ℕ
 quoteValues depth (Quoted.Is q) = quoteWords depth q
+quoteValues depth Quoted.Unsound = zeros quoteSize
 quoteValues depth Quoted.BadArgument = zeros quoteSize
 quoteValues depth Quoted.NotFollowed = zeros quoteSize
 quoteValues depth Quoted.Waiting = zeros quoteSize

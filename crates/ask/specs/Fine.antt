@@ -16,6 +16,7 @@ pub record FineQuote (q : Quote) : Type 0 where
 
 abbrev pub FineQuoted : Quoted → Type 0
 FineQuoted (Quoted.Is q) = FineQuote q
+FineQuoted Quoted.Unsound = Unit {0}
 FineQuoted Quoted.BadArgument = Unit {0}
 FineQuoted Quoted.NotFollowed = Unit {0}
 FineQuoted Quoted.Waiting = Unit {0}

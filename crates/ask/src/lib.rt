@@ -19,14 +19,6 @@ ghost use Rattle.quote.specs.Quotes.{quoteOf};
 ghost use Rattle.ask.specs.Ask.{quoteSize, bitsOf, momentWords, byWords, entryWords, topWords, quoteWords, roomAfter, quoteNumber, quoteValues, Asked, stateWords, Stated};
 ghost use Rattle.ask.specs.Fine.{FineTop, FineQuote, FineQuoted};
 
-// Nothing heard yet.
-const NOTHING_HEARD: u64 = 22;
-
-// Age below 0; age above the limit.
-const BEFORE_HEARD: u64 = 23;
-
-const TOO_OLD: u64 = 24;
-
 // The numbers of a quote, of one of its sides, and of a state.
 const QUOTE: usize = 17;
 
@@ -37,8 +29,8 @@ const STATE: usize = 4;
 // The greatest number of 64 bits.
 const MOST_BITS: u64 = 18446744073709551615;
 
-// A price as its 64 bits, two's complement.
-fn bits(p: i64) -> u64
+// A price or a sum as its 64 bits, two's complement.
+pub fn bits(p: i64) -> u64
     ensures { λ r. ⌜ r ≡ bitsOf p ⌝ }
 {
     if p < 0 {
@@ -113,18 +105,11 @@ fn tell(out: &mut [u64], depth: u64, q: Quoted) -> u64
     ensures { λ r. ⌜ r ≡ quoteNumber q ⌝ }
     ensures { λ r. ⌜ now (out .exit) ≡ roomAfter r (quoteValues depth q) (now (out .entry)) ⌝ }
 {
-    match q {
-        Quoted::Is(x) => {
-            put_quote(out, depth, x);
-            return store::DONE;
-        }
-        Quoted::BadArgument => return store::BAD_ARGUMENT,
-        Quoted::NotFollowed => return store::NOT_FOLLOWED,
-        Quoted::Waiting => return store::WAITING,
-        Quoted::NothingHeard => return NOTHING_HEARD,
-        Quoted::BeforeHeard => return BEFORE_HEARD,
-        Quoted::TooOld => return TOO_OLD,
-    }
+    let Quoted::Is(x) = q else {
+        return quote::number(q);
+    };
+    put_quote(out, depth, x);
+    store::DONE
 }
 
 // A quote of a sound store into room that is long enough.

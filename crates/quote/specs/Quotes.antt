@@ -48,3 +48,14 @@ atNow (Number.Is now) id limit b =
 
 unfoldable pub quoteOf : ℕ → List ℕ → ℕ → Board → Quoted
 quoteOf id now limit b = atNow (momentOf now) id limit b
+
+-- Document 01's number of each case. 17 is of a store that is no board.
+abbrev pub quoteNumber : Quoted → ℕ
+quoteNumber (Quoted.Is q) = 0
+quoteNumber Quoted.Unsound = 17
+quoteNumber Quoted.BadArgument = 18
+quoteNumber Quoted.NotFollowed = 20
+quoteNumber Quoted.Waiting = 21
+quoteNumber Quoted.NothingHeard = 22
+quoteNumber Quoted.BeforeHeard = 23
+quoteNumber Quoted.TooOld = 24

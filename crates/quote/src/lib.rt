@@ -9,7 +9,7 @@ ghost use Rattle.book.specs.Canonical.{heldIn};
 ghost use Rattle.cells.specs.Cells.{sideSize, sideAt};
 ghost use Rattle.store.specs.Meaning.{st, boardIn};
 ghost use Rattle.moment.specs.Moments.{moments};
-ghost use Rattle.quote.specs.Quotes.{mostLimit, topOf, agedBy, quoteAt, quoteOf};
+ghost use Rattle.quote.specs.Quotes.{mostLimit, topOf, agedBy, quoteAt, quoteOf, quoteNumber};
 ghost use Rattle.quote.specs.Ready.{Ready};
 
 // Place 1 of a side, or that the side is empty.
@@ -26,9 +26,10 @@ pub struct Quote {
     pub offer: Top,
 }
 
-// A quote, or why there is none: 18, 20, 21, 22, 23, 24.
+// A quote, or why there is none: 17, 18, 20, 21, 22, 23, 24.
 pub enum Quoted {
     Is(Quote),
+    Unsound,
     BadArgument,
     NotFollowed,
     Waiting,
@@ -39,6 +40,30 @@ pub enum Quoted {
 
 // The longest limit, in seconds.
 pub const MOST_LIMIT: u64 = 86400;
+
+// Nothing heard yet.
+const NOTHING_HEARD: u64 = 22;
+
+// Age below 0; age above the limit.
+const BEFORE_HEARD: u64 = 23;
+
+const TOO_OLD: u64 = 24;
+
+// Document 01's number of a quote.
+pub fn number(q: Quoted) -> u64
+    ensures { λ r. ⌜ r ≡ quoteNumber q ⌝ }
+{
+    match q {
+        Quoted::Is(_) => return store::DONE,
+        Quoted::Unsound => return store::BAD_STORE,
+        Quoted::BadArgument => return store::BAD_ARGUMENT,
+        Quoted::NotFollowed => return store::NOT_FOLLOWED,
+        Quoted::Waiting => return store::WAITING,
+        Quoted::NothingHeard => return NOTHING_HEARD,
+        Quoted::BeforeHeard => return BEFORE_HEARD,
+        Quoted::TooOld => return TOO_OLD,
+    }
+}
 
 fn first_of(store: &[u64], at: usize) -> Top
     requires { ⌜ at + sideSize ≤ length (now store) ⌝ }

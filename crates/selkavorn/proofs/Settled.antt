@@ -5,6 +5,7 @@ use Rattle.feed.proofs.Laws.{feed-settled}
 use Rattle.ask.proofs.Laws.{quote-settled, state-settled}
 use Rattle.summary.proofs.Laws.{summary-settled}
 use Rattle.send.proofs.Laws.{write-settled}
+use Rattle.lots.proofs.Laws.{lot-settled}
 use Rattle.selkavorn.specs.Settled.{WalkSettled, AllSettled}
 
 walk-settled : WalkSettled
@@ -20,4 +21,5 @@ all-settled =
       stating = state-settled;
       summing = summary-settled;
       salvaging = walk-settled;
+      dealing = lot-settled;
     }

@@ -9,12 +9,13 @@ use Rattle.ask.specs.Laws.{QuoteSettled, StateSettled}
 use Rattle.summary.specs.Laws.{SummarySettled}
 use Rattle.send.specs.Laws.{WriteSettled}
 use Rattle.salvage.specs.Rooms.{Salvaged}
+use Rattle.lots.specs.Laws.{LotSettled}
 
 -- The walk of a recording, which needs no store.
 abbrev pub WalkSettled : Type 0
 WalkSettled = (rec : List ℕ) (from : ℕ) (room : List ℕ) → Settled (Salvaged rec from room)
 
--- All seven, over the records that their contracts are.
+-- All nine, over the records that their contracts are; selling and buying are one, by its side.
 pub record AllSettled : Type 0 where
   pub opening : OpenSettled
   pub feeding : FeedSettled
@@ -23,3 +24,4 @@ pub record AllSettled : Type 0 where
   pub stating : StateSettled
   pub summing : SummarySettled
   pub salvaging : WalkSettled
+  pub dealing : LotSettled

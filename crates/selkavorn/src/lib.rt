@@ -1,4 +1,4 @@
-// The functions that a C program calls; include/selkavorn.h says what each takes. None of them asks anything of its caller
+// The functions that a C program calls; include/selkavorn.h and include/selkavorn_lots.h say what each takes. None of them asks anything of its caller
 // beyond what C asks of a pointer and a length.
 ghost use Rattle.opening.specs.Opening.{Opened};
 ghost use Rattle.feed.specs.Feeding.{Fed};
@@ -6,6 +6,8 @@ ghost use Rattle.ask.specs.Ask.{Asked, Stated};
 ghost use Rattle.summary.specs.Summary.{Summed};
 ghost use Rattle.send.specs.Send.{Sent};
 ghost use Rattle.salvage.specs.Rooms.{Salvaged};
+ghost use Rattle.lots.specs.Rooms.{Dealt};
+ghost use mathlib.Core.Bool.{true, false};
 
 // Opens a store for a depth kind (0 order depth, 1 price depth) and SecurityIDs.
 #[no_mangle]
@@ -76,4 +78,34 @@ pub extern "C" fn selkavorn_salvage(rec: &[u8], from: u64, out: &mut [u64]) -> u
     ensures { λ r. ⌜ Salvaged (now (rec .entry)) from (now (out .entry)) r (now (out .exit)) ⌝ }
 {
     salvage::walk(rec, from, out)
+}
+
+// Gives what selling so many units down an instrument's bids brings, as 5 numbers in out: H, the heard date and time, the sum, what is left.
+#[no_mangle]
+pub extern "C" fn selkavorn_sell(
+    store: &[u64],
+    id: u64,
+    quantity: u64,
+    time: &[u8],
+    limit: u64,
+    out: &mut [u64],
+) -> u64
+    ensures { λ r. ⌜ Dealt false id quantity (now (time .entry)) limit (now (out .entry)) (now (store .entry)) r (now (out .exit)) ⌝ }
+{
+    lots::sell(store, id, quantity, time, limit, out)
+}
+
+// Gives what buying so many units up an instrument's offers costs, likewise.
+#[no_mangle]
+pub extern "C" fn selkavorn_buy(
+    store: &[u64],
+    id: u64,
+    quantity: u64,
+    time: &[u8],
+    limit: u64,
+    out: &mut [u64],
+) -> u64
+    ensures { λ r. ⌜ Dealt true id quantity (now (time .entry)) limit (now (out .entry)) (now (store .entry)) r (now (out .exit)) ⌝ }
+{
+    lots::buy(store, id, quantity, time, limit, out)
 }

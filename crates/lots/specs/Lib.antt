@@ -1,0 +1,3 @@
+pub mod Lots
+pub mod Rooms
+pub mod Laws
