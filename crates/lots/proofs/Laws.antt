@@ -26,6 +26,7 @@ refused r n es e z w =
       units = λ h. absurd (z h);
       sums = λ h. absurd (z h);
       only = λ h. absurd (w (sym (ap lotNumber e) ∙ h));
+      done = λ h. absurd (z (sym (ap lotNumber e) ∙ h));
       given = λ s h. absurd (clash s h);
     }
   where
@@ -48,6 +49,7 @@ module _ (q : Quote) (n : ℕ) (es : List Entry) where
       record {
         sum = ap (λ (y : Sold). y .sum) w ∙ lots-are-exact n es .given x e .0;
         left = ap (λ (y : Sold). y .left) w ∙ lots-are-exact n es .given x e .1;
+        fit = lots-are-exact n es .fit x e;
         number = ap (λ (y : Sold). y .number) w;
         heard = ap (λ (y : Sold). y .heard) w;
       }
@@ -57,6 +59,15 @@ module _ (q : Quote) (n : ℕ) (es : List Entry) where
   given true s h = is-sold (lotOf n es) s refl h
   given false s h = let z : _≡_ {A = ℕ} 0 1 = cc in absurd (omega arith)
 
+  is-given : (l : Lot) → lotNumber (dated q l) ≡ 0 → (s : Sold) × (dated q l ≡ Lotted.Is s)
+  is-given (Lot.Is x) h = (record { sum = x .sum; left = x .left; number = q .number; heard = q .heard }, refl)
+  is-given Lot.Over h = absurd (omega arith)
+
+  done : (t : Bool) → lotNumber (cond t (dated q (lotOf n es)) (Lotted.Not Quoted.BadArgument)) ≡ 0
+      → (s : Sold) × (cond t (dated q (lotOf n es)) (Lotted.Not Quoted.BadArgument) ≡ Lotted.Is s)
+  done true h = is-given (lotOf n es) h
+  done false h = absurd (omega arith)
+
   quoted : Order (Quoted.Is q) n es
   quoted =
       record {
@@ -64,6 +75,7 @@ module _ (q : Quote) (n : ℕ) (es : List Entry) where
         units = λ h t. rw t;
         sums = λ h t k w. rw (t, lots-are-exact n es .refuses k w);
         only = only-sums (unitsFine n) refl;
+        done = done (unitsFine n);
         given = λ s h. (q, (refl, given (unitsFine n) s h));
       }
 

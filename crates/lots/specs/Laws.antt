@@ -20,6 +20,7 @@ use Rattle.lots.specs.Rooms.{Dealt}
 pub record Rests (q : Quote) (n : ℕ) (es : List Entry) (s : Sold) : Type 0 where
   pub sum : s .sum ≡ sumOver n es
   pub left : s .left ≡ leftOf n es
+  pub fit : (k : ℕ) → fits (sumAfter n es k) ≡ true
   pub number : s .number ≡ q .number
   pub heard : s .heard ≡ q .heard
 
@@ -32,6 +33,8 @@ pub record Order (r : Quoted) (n : ℕ) (es : List Entry) : Type 0 where
   pub sums : quoteNumber r ≡ 0 → unitsFine n ≡ true → (k : ℕ) → fits (sumAfter n es k) ≡ false → lotNumber (onQuote r n es) ≡ 35
   pub only : lotNumber (onQuote r n es) ≡ 35
       → (quoteNumber r ≡ 0) × ((unitsFine n ≡ true) × ((k : ℕ) × ((k ≤ length es) × (fits (sumAfter n es k) ≡ false))))
+  -- 0 is the number of a lot that is given alone.
+  pub done : lotNumber (onQuote r n es) ≡ 0 → (s : Sold) × (onQuote r n es ≡ Lotted.Is s)
   -- What is given is exact and dated by the quote.
   pub given : (s : Sold) → onQuote r n es ≡ Lotted.Is s → (q : Quote) × ((r ≡ Quoted.Is q) × Rests q n es s)
 

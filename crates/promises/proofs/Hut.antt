@@ -1,7 +1,8 @@
 -- The hut of specs/Hut.antt recovers: its messages are read, and the calls computed on its board. Assumes nothing.
-use mathlib.Core.Path.{_≡_, refl, ap, _∙_}
+use mathlib.Core.Path.{_≡_, refl, subst}
 use mathlib.Core.Bool.{false≢true}
 use mathlib.Core.List.{List, [], _∷_, map}
+use Prim.Native.Nat.{ℕ}
 use native.Mathlib.Omega.{arith}
 use Rattle.book.specs.Rules.{applied, afterAction, afterNew, afterChange}
 use Rattle.message.specs.Message.{Message}
@@ -13,13 +14,13 @@ use Rattle.board.specs.Calls.{Call, fed, aside, calls, Throughout, inst, Live, 
 use Rattle.board.specs.Demand.{NumberedFromOne, bookAt, NeverBreaks, Right}
 use Rattle.board.proofs.Streams.{numbered-from-one, never-breaks}
 use Rattle.store.specs.Meaning.{boardAt}
-use Rattle.opening.specs.Opening.{openStore}
+use Rattle.opening.specs.Opening.{openAnswer, openStore}
 use Rattle.samples.specs.Says.{bid-1, bid-2, offer-3, first-says, second-says, third-says, shows}
 use Rattle.samples.proofs.Read.{says-first, says-second, says-third, says-at-1, says-at-2, says-at-4}
 use Rattle.promises.specs.Acts.{lefts}
 use Rattle.promises.specs.Recovery.{readIn, Supposed}
 use Rattle.promises.specs.Hut.{stream, received, ours, HutRecovers}
-use Rattle.promises.proofs.Recovery.{callOf, back, ends, starts, right-back}
+use Rattle.promises.proofs.Recovery.{Holds, callOf, back, holds, starts, right-back}
 
 -- what the stream says, and the calls
 abbrev said : List Message
@@ -55,7 +56,7 @@ right = (
   ),
 )
 
-abbrev end : Board
+abbrev pub end : Board
 end = calls made (opened 0 ours)
 
 live : Live 7 end
@@ -66,16 +67,21 @@ last : end .H ≡ 3
 unfolding applied afterAction afterNew afterChange anyWaiting look joining hit give gives count number entriesOf run after take snap feed
 last = refl
 
-book : inst 7 end .book ≡ record { bids = bid-2 ∷ []; offers = offer-3 ∷ [] }
+pub book : inst 7 end .book ≡ record { bids = bid-2 ∷ []; offers = offer-3 ∷ [] }
 unfolding applied afterAction afterNew afterChange anyWaiting look joining hit give gives count number entriesOf run after take snap feed
 book = refl
 
 -- ---- on bytes and stores
+pub hut-holds : (xs : List ℕ) → openAnswer 0 ours xs ≡ 0 → Holds 0 (lefts received (openStore 0 ours xs)) end
+hut-holds xs e =
+    subst (λ (cs : List Call). Holds 0 (lefts received (openStore 0 ours xs)) (calls cs (opened 0 ours))) calls-made
+    (holds 0 received (openStore 0 ours xs) (opened 0 ours) (starts 0 ours xs e))
+
 pub hut-recovers : HutRecovers
 hut-recovers xs e =
     let h = starts 0 ours xs e in
     let s = openStore 0 ours xs in
-    let q : boardAt (lefts received s) ≡ end = ends 0 received s (opened 0 ours) h ∙ ap (λ (cs : List Call). calls cs (opened 0 ours)) calls-made in
+    let q : boardAt (lefts received s) ≡ end = hut-holds xs e .same in
     record {
       numbers = rw stream-said numbers;
       never = rw stream-said never;

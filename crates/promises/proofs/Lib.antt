@@ -3,6 +3,7 @@ pub mod Hut
 pub mod Marked
 pub mod Heard
 pub mod Quotes
+pub mod Lots
 pub mod RoundTrip
 pub mod Refusals
 pub mod Salvage

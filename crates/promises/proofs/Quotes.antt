@@ -13,20 +13,20 @@ use Rattle.digits.specs.declared.Number.{Number}
 use Rattle.moment.specs.Moments.{momentOf}
 use Rattle.moment.specs.Ages.{ageOf}
 use Rattle.board.specs.Board.{Board, opened, look, at}
-use Rattle.board.specs.Calls.{inst}
+use Rattle.board.specs.Calls.{calls, inst}
 use Rattle.board.specs.Ranges.{idFine}
 use Rattle.store.specs.Meaning.{boardAt}
 use Rattle.sound.specs.Sound.{sound}
-use Rattle.opening.specs.Opening.{openStore}
+use Rattle.opening.specs.Opening.{openAnswer, openStore}
 use Rattle.quote.specs.Quotes.{mostLimit, given, quoteAt, atNow, quoteOf}
 use Rattle.quote.specs.declared.Quoted.{Quoted}
 use Rattle.ask.specs.Ask.{quoteSize, quoteNumber, quoteValues, quoteAnswer, quoteOut}
 use Rattle.book.specs.Rules.{leaves}
-use Rattle.board.specs.Demand.{bookAt, Right}
+use Rattle.board.specs.Demand.{NumberedFromOne, NeverBreaks, bookAt, Right}
 use Rattle.board.proofs.Staying.{same-calls}
-use Rattle.promises.specs.Acts.{lefts}
+use Rattle.promises.specs.Acts.{Act, lefts, Along}
 use Rattle.promises.specs.Recovery.{readIn, Supposed}
-use Rattle.promises.specs.Quotes.{Dated, QuotesAreDated}
+use Rattle.promises.specs.Quotes.{AsOf, Dated, QuotesAreDated}
 use Rattle.promises.proofs.Recovery.{callOf, along, ends, starts, right-of, recovers-stream}
 use Rattle.promises.proofs.Heard.{Heard, heard-after}
 
@@ -58,64 +58,82 @@ module _ (i : ℕ) (now : List ℕ) (limit : ℕ) (b : Board) (t : ℕ) (m : mom
       go false false false false false pw pz ps pl e =
           record { time = t; asked = m; live = pw; some = pz; since = ps; within = pl; said = refl }
 
-pub given-of : (id : ℕ) (now : List ℕ) (limit : ℕ) (out xs : List ℕ) → quoteAnswer id now limit out xs ≡ 0
-    → Given (look id (boardAt xs .insts)) now limit (boardAt xs) (quoteOf id now limit (boardAt xs))
-unfolding quoteAnswer quoteOf
-given-of id now limit out xs = go (sound xs) (leb quoteSize (length out)) (momentOf now) refl
+pub given-by : (id : ℕ) (now : List ℕ) (limit : ℕ) (b : Board) → quoteNumber (quoteOf id now limit b) ≡ 0
+    → Given (look id (b .insts)) now limit b (quoteOf id now limit b)
+unfolding quoteOf
+given-by id now limit b = go (momentOf now) refl
   where
-    b : Board
-    b = boardAt xs
-
     i : ℕ
-    i = look id (boardAt xs .insts)
+    i = look id (b .insts)
 
     fine : (z : Bool) (t : ℕ) → momentOf now ≡ Number.Is t → quoteNumber (cond z (quoteAt i t limit b) Quoted.BadArgument) ≡ 0
         → Given i now limit b (cond z (quoteAt i t limit b) Quoted.BadArgument)
     fine true t m e = at-time i now limit b t m e
     fine false t m e = no e
 
-    go : (s r : Bool) (n : Number) → momentOf now ≡ n → cond s (cond r (quoteNumber (atNow n id limit b)) 18) 17 ≡ 0
-        → Given i now limit b (atNow n id limit b)
-    go false r n m e = no e
-    go true false n m e = no e
-    go true true Number.No m e = no e
-    go true true (Number.Is t) m e = fine (idFine id && leb limit mostLimit) t m e
+    go : (n : Number) → momentOf now ≡ n → quoteNumber (atNow n id limit b) ≡ 0 → Given i now limit b (atNow n id limit b)
+    go Number.No m e = no e
+    go (Number.Is t) m e = fine (idFine id && leb limit mostLimit) t m e
+
+pub given-of : (id : ℕ) (now : List ℕ) (limit : ℕ) (out xs : List ℕ) → quoteAnswer id now limit out xs ≡ 0
+    → Given (look id (boardAt xs .insts)) now limit (boardAt xs) (quoteOf id now limit (boardAt xs))
+unfolding quoteAnswer
+given-of id now limit out xs = go (sound xs) (leb quoteSize (length out))
+  where
+    go : (s r : Bool) → cond s (cond r (quoteNumber (quoteOf id now limit (boardAt xs))) 18) 17 ≡ 0
+        → Given (look id (boardAt xs .insts)) now limit (boardAt xs) (quoteOf id now limit (boardAt xs))
+    go false r e = no e
+    go true false e = no e
+    go true true e = given-by id now limit (boardAt xs) e
 
 -- ---- and then it is dated
-dated : (depth : ℕ) (stream : List (List ℕ)) (d : ℕ) (now : List ℕ) (limit : ℕ) (out : List ℕ) (b : Board) (q : Quoted) → b .depth ≡ depth
-    → Given (look d (b .insts)) now limit b q → Heard (readIn depth stream) b → bookAt (readIn depth stream) d (b .H) ≡ leaves (inst d b .book)
-    → Dated depth stream d now limit out (sets out 0 (quoteValues (b .depth) q))
-dated depth stream d now limit out b q kind g heard book = go (b .H) refl
-  where
-    go : (h : ℕ) → b .H ≡ h → Dated depth stream d now limit out (sets out 0 (quoteValues (b .depth) q))
-    go zero e = absurd (true≢false (ap (λ (n : ℕ). eqb n 0) (sym e) ∙ g .some))
-    go (suc k) e =
-        let (us, m) = heard k e in
+module _ (depth : ℕ) (stream : List (List ℕ)) (n : NumberedFromOne (readIn depth stream)) (d : ℕ) (w : NeverBreaks (readIn depth stream) d)
+    (ids xs : List ℕ) (e : openAnswer depth ids xs ≡ 0) (cs : List Act) (p : Along (Supposed depth stream d) cs (openStore depth ids xs)) (now : List ℕ) (limit : ℕ) where
+  -- the board after the calls
+  abbrev pub end : Board
+  end = boardAt (lefts cs (openStore depth ids xs))
+
+  is-end : end ≡ calls (map (callOf depth) cs) (opened depth ids)
+  is-end = ends depth cs (openStore depth ids xs) (opened depth ids) (starts depth ids xs e)
+
+  pub end-kind : end .depth ≡ depth
+  end-kind = ap (λ (b : Board). b .depth) is-end ∙ same-calls (map (callOf depth) cs) (opened depth ids) .depth
+
+  heard : Heard (readIn depth stream) end
+  heard =
+      let h = starts depth ids xs e in
+      let r = along depth (Supposed depth stream d) (Right (readIn depth stream) d) (right-of depth stream d) cs (openStore depth ids xs) (opened depth ids) h p in
+      rw is-end (heard-after (readIn depth stream) n d depth ids (map (callOf depth) cs) r)
+
+  module _ (q : Quoted) (g : Given (look d (end .insts)) now limit end q) where
+    pub counted : (k : ℕ) × (end .H ≡ suc k)
+    counted = go (end .H) refl
+      where
+        go : (h : ℕ) → end .H ≡ h → (k : ℕ) × (end .H ≡ suc k)
+        go zero z = absurd (true≢false (ap (λ (n : ℕ). eqb n 0) (sym z) ∙ g .some))
+        go (suc k) z = (k, z)
+
+    pub as-of : (k : ℕ) → end .H ≡ suc k → AsOf depth stream d now limit k (end .heard) (inst d end .book)
+    as-of k z =
+        let (us, m) = heard k z in
         record {
-          k = k;
-          heard = b .heard;
           entries = us;
           message = m;
-          book = inst d b .book;
-          streamed = ap (bookAt (readIn depth stream) d) (sym e) ∙ book;
-          room = rw (g .said, kind, e);
+          streamed = ap (bookAt (readIn depth stream) d) (sym z) ∙ recovers-stream depth stream n d w ids xs e cs p (g .live);
           time = g .time;
           asked = g .asked;
           since = g .since;
           within = g .within;
         }
 
+    dated : (out : List ℕ) (k : ℕ) → end .H ≡ suc k → Dated depth stream d now limit out (sets out 0 (quoteValues (end .depth) q))
+    dated out k z =
+        record { k = k; heard = end .heard; book = inst d end .book; as-of = as-of k z; room = rw (g .said, end-kind, z) }
+
 pub quotes-are-dated : QuotesAreDated
 unfolding quoteOut
 quotes-are-dated depth stream n d w ids xs e cs p now limit out a =
-    let s = openStore depth ids xs in
-    let ys = lefts cs s in
-    let h = starts depth ids xs e in
-    let q = ends depth cs s (opened depth ids) h in
-    let g = given-of d now limit out ys a in
-    let r = along depth (Supposed depth stream d) (Right (readIn depth stream) d) (right-of depth stream d) cs s (opened depth ids) h p in
-    rw a
-    (dated depth stream d now limit out (boardAt ys) (quoteOf d now limit (boardAt ys))
-    (ap (λ (b : Board). b .depth) q ∙ same-calls (map (callOf depth) cs) (opened depth ids) .depth) g
-    (rw q (heard-after (readIn depth stream) n d depth ids (map (callOf depth) cs) r))
-    (recovers-stream depth stream n d w ids xs e cs p (g .live)))
+    let q = quoteOf d now limit (boardAt (lefts cs (openStore depth ids xs))) in
+    let g = given-of d now limit out (lefts cs (openStore depth ids xs)) a in
+    let (k, z) = counted depth stream n d w ids xs e cs p now limit q g in
+    rw a (dated depth stream n d w ids xs e cs p now limit q g out k z)

@@ -57,9 +57,12 @@ module _ (depth : ℕ) (P : Act → List ℕ → Type 0) (Q : board.Call → Boa
   back f (a ∷ cs) xs b h p =
       (f a xs b (h .same) (p .0), back f cs (left a xs) (board.called (callOf depth a) b .board) (after depth a xs b h) (p .1))
 
+pub holds : (depth : ℕ) (cs : List Act) (xs : List ℕ) (b : Board) → Holds depth xs b → Holds depth (lefts cs xs) (board.calls (map (callOf depth) cs) b)
+holds depth [] xs b h = h
+holds depth (a ∷ cs) xs b h = holds depth cs (left a xs) (board.called (callOf depth a) b .board) (after depth a xs b h)
+
 pub ends : (depth : ℕ) (cs : List Act) (xs : List ℕ) (b : Board) → Holds depth xs b → boardAt (lefts cs xs) ≡ board.calls (map (callOf depth) cs) b
-ends depth [] xs b h = h .same
-ends depth (a ∷ cs) xs b h = ends depth cs (left a xs) (board.called (callOf depth a) b .board) (after depth a xs b h)
+ends depth cs xs b h = holds depth cs xs b h .same
 
 pub starts : (depth : ℕ) (ids xs : List ℕ) → openAnswer depth ids xs ≡ 0 → Holds depth (openStore depth ids xs) (opened depth ids)
 starts depth ids xs e = record { sound = opened-is-sound depth ids xs e; same = opened-is-board depth ids xs e; kind = refl }

@@ -22,6 +22,8 @@ use Rattle.ask.proofs.Laws.{refused-carries-zeros}
 use Rattle.summary.specs.Summary.{summaryWords, summaryAnswer, summaryOut}
 use Rattle.send.specs.Send.{Page, message, refusal, sentPage, writtenNumber, pageAnswer, pageOut, sendAnswer, sendOut}
 use Rattle.salvage.specs.Rooms.{given, goOn, cells, refused, walkAnswer, walkOut}
+use Rattle.lots.specs.Lots.{lottedOf}
+use Rattle.lots.specs.Rooms.{lotWords, lotAnswer, lotOut}
 use Rattle.promises.specs.Refusals.{isDone, RefusalsStay}
 
 -- what is said of the answer is said of what the contract makes it
@@ -82,6 +84,11 @@ walk-stays rec from room = go (refused rec from (length room))
     go true h = refl
     go false h = absurd (true≢false h)
 
+lot-stays : (buying : Bool) (id n : ℕ) (now : List ℕ) (limit : ℕ) (room xs : List ℕ) → isDone (lotAnswer buying id n now limit room xs % 256) ≡ false
+    → lotOut buying id n now limit room xs ≡ room
+unfolding lotOut
+lot-stays buying id n now limit room xs = room-stays (lotAnswer buying id n now limit room xs) (lotWords (lottedOf buying id n now limit xs)) room
+
 pub refusals-stay : RefusalsStay
 refusals-stay =
     record {
@@ -92,5 +99,6 @@ refusals-stay =
       stating = λ id room xs r ys o h. o .out ∙ state-stays id room xs (of-answer isDone r _ (o .answer) h);
       summing = λ room xs r ys o h. o .out ∙ summary-stays room xs (of-answer isDone r _ (o .answer) h);
       salvaging = λ rec from room r ys o h. o .out ∙ walk-stays rec from room (of-answer isDone r _ (o .answer) h);
+      dealing = λ buying id n now limit room xs r ys o h. o .out ∙ lot-stays buying id n now limit room xs (of-answer isDone r _ (o .answer) h);
       zeros = refused-carries-zeros;
     }

@@ -3,7 +3,7 @@ use mathlib.Core.List.{List, [], _∷_}
 use Prim.Native.Nat.{ℕ}
 use Rattle.feed.specs.Feeding.{feedStore}
 
--- A call: any bytes are fed, or one that only reads the store (a quote, a writing, a state, a summary), refused or not.
+-- A call: any bytes are fed, or one that only reads the store (a quote, a writing, a state, a summary, a lot), refused or not.
 pub data Act : Type 0 where
   feeds : List ℕ → Act
   reads : Act

@@ -3,6 +3,7 @@ pub mod Recovery
 pub mod Hut
 pub mod Marked
 pub mod Quotes
+pub mod Lots
 pub mod RoundTrip
 pub mod Refusals
 pub mod Salvage

@@ -21,26 +21,30 @@ use Rattle.ask.specs.Ask.{quoteValues, quoteAnswer, quoteOut}
 use Rattle.promises.specs.Acts.{Act, lefts, Along}
 use Rattle.promises.specs.Recovery.{readIn, Supposed}
 
--- What a quote of d says that was asked at the bytes now, with a limit, into the room out, and left the room ys.
-pub record Dated (depth : ℕ) (stream : List (List ℕ)) (d : ℕ) (now : List ℕ) (limit : ℕ) (out ys : List ℕ) : Type 0 where
-  -- our last number is k + 1, and the stream's message of that number was sent at `heard`
-  pub k : ℕ
-  pub heard : ℕ
+-- What is asked of d at the bytes now, with a limit, stands on the stream's book after message k + 1, our last number, and is dated by it.
+pub record AsOf (depth : ℕ) (stream : List (List ℕ)) (d : ℕ) (now : List ℕ) (limit k heard : ℕ) (book : Lists) : Type 0 where
+  -- the stream's message of that number was sent at `heard`
   pub entries : List Update
   pub message : messageAt (readIn depth stream) k ≡ numbered (suc k) heard entries
   -- the stream's book there
-  pub book : Lists
   pub streamed : bookAt (readIn depth stream) d (suc k) ≡ leaves book
-  -- is what stands in the room
-  pub room :
-      ys
-      ≡ sets out 0
-      (quoteValues depth (Quoted.Is (record { number = suc k; heard = heard; bid = topOf (book .bids); offer = topOf (book .offers) })))
-  -- and its age lies in 0 to the limit, in milliseconds
+  -- its age lies in 0 to the limit, in milliseconds
   pub time : ℕ
   pub asked : momentOf now ≡ Number.Is time
   pub since : ltZ (ageOf time heard) (pos 0) ≡ false
   pub within : ltZ (pos (limit * 1000)) (ageOf time heard) ≡ false
+
+-- What a quote of d says that was asked at the bytes now, with a limit, into the room out, and left the room ys.
+pub record Dated (depth : ℕ) (stream : List (List ℕ)) (d : ℕ) (now : List ℕ) (limit : ℕ) (out ys : List ℕ) : Type 0 where
+  pub k : ℕ
+  pub heard : ℕ
+  pub book : Lists
+  pub as-of : AsOf depth stream d now limit k heard book
+  -- place 1 of each side of that book stands in the room
+  pub room :
+      ys
+      ≡ sets out 0
+      (quoteValues depth (Quoted.Is (record { number = suc k; heard = heard; bid = topOf (book .bids); offer = topOf (book .offers) })))
 
 abbrev pub QuotesAreDated : Type 0
 QuotesAreDated =

@@ -1,4 +1,4 @@
--- A refused call changes neither store nor output (document 01, "Answer numbers"): over the contracts of the seven exported functions.
+-- A refused call changes neither store nor output (document 01, "Answer numbers"): over the contracts of the nine exported functions.
 use mathlib.Core.Path.{_≡_}
 use mathlib.Core.Bool.{Bool, false}
 use mathlib.Core.List.{List}
@@ -13,13 +13,14 @@ use Rattle.ask.specs.Laws.{RefusedCarriesZeros}
 use Rattle.summary.specs.Summary.{Summed}
 use Rattle.send.specs.Send.{Sent}
 use Rattle.salvage.specs.Rooms.{Salvaged}
+use Rattle.lots.specs.Rooms.{Dealt}
 
 -- Document 01's number is the answer less the count or length that stands above its 8 bits. Where that number is none of those that
 -- change what was lent, it is what it was.
 abbrev pub Stays : (ℕ → Bool) → Allowed → List ℕ → Type 0
 Stays changing allows lent = (r : ℕ) (ys : List ℕ) → allows r ys → changing (r % 256) ≡ false → ys ≡ lent
 
--- A quote, writing, state, summary, opening or walk is done with 0.
+-- A quote, writing, state, summary, lot, opening or walk is done with 0.
 abbrev pub isDone : ℕ → Bool
 isDone a = eqb a 0
 
@@ -33,5 +34,7 @@ pub record RefusalsStay : Type 0 where
   pub stating : (id : ℕ) (room xs : List ℕ) → Stays isDone (Stated id room xs) room
   pub summing : (room xs : List ℕ) → Stays isDone (Summed room xs) room
   pub salvaging : (rec : List ℕ) (from : ℕ) (room : List ℕ) → Stays isDone (Salvaged rec from room) room
+  -- selling and buying
+  pub dealing : (buying : Bool) (id n : ℕ) (now : List ℕ) (limit : ℕ) (room xs : List ℕ) → Stays isDone (Dealt buying id n now limit room xs) room
   -- a refused quote carries zeros
   pub zeros : RefusedCarriesZeros
