@@ -1,9 +1,11 @@
-# `make run` builds all and replays the sample; `make test` proves and tests all; `make bench` measures beside QuickFIX;
+# `make run` builds all, replays the sample and sells a lot of it; `make test` proves and tests all; `make bench` measures beside QuickFIX;
 # `make install` takes PREFIX and DESTDIR; `make pictures` draws docs/pictures anew.
 .PHONY: run test bench install pictures
 run:
 	@./scripts/build-gateway
 	@./scripts/run-program target/c/selkavorn replay --instruments 3809512,3809644,3810077 target/c/morning.fix
+	@echo
+	@./scripts/run-program target/c/selkavorn sell --quantity 15 --instrument 3809512 target/c/morning.fix
 test:
 	@./scripts/test
 bench:

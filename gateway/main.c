@@ -1,4 +1,4 @@
-/* The program: selkavorn replay, snapshot or salvage, with options and a recording. */
+/* The program: selkavorn replay, sell, buy, snapshot or salvage, with options and a recording. */
 #define _POSIX_C_SOURCE 200809L
 
 #include <errno.h>
@@ -65,8 +65,11 @@ static enum status work(struct board *board, struct request *request, struct fil
     status = replay(board, request, files);
     if (status != STATUS_GOOD)
         return status;
-    return request->command == COMMAND_REPLAY ? print_quotes(board, request)
-                                              : write_snapshot(board, request);
+    switch (request->command) {
+    case COMMAND_REPLAY: return print_quotes(board, request);
+    case COMMAND_SNAPSHOT: return write_snapshot(board, request);
+    default: return print_lot(board, request);
+    }
 }
 
 /* The status of what was printed, unless it could not be written. */

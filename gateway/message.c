@@ -50,6 +50,28 @@ uint64_t value_number(struct value value)
     return number;
 }
 
+/* 18 digits, a minus and a point at most. Each decimal makes the unit of the last digit a tenth. */
+bool value_price(struct value value, uint64_t *price)
+{
+    uint64_t size = 0, unit = SELKAVORN_PRICE_UNIT;
+    size_t first = value.length > 0 && value.bytes[0] == '-';
+    bool behind_point = false;
+    if (value.length == first || value.length > 20 || value.bytes[first] == '.')
+        return false;
+    for (size_t i = first; i < value.length; i++) {
+        if (value.bytes[i] == '.' && !behind_point) {
+            behind_point = true;
+            continue;
+        }
+        if (value.bytes[i] < '0' || value.bytes[i] > '9')
+            return false;
+        size = size * 10 + (uint64_t)(value.bytes[i] - '0');
+        unit /= behind_point ? 10 : 1;
+    }
+    *price = first == 1 ? -(size * unit) : size * unit;
+    return unit > 0; /* it has no more decimals than a price */
+}
+
 bool value_is_moment(struct value value)
 {
     static const char shape[] = "00000000-00:00:00.000";

@@ -157,7 +157,7 @@ static void print_passed(const struct piece *run)
 static void print_totals(const struct replay *replay)
 {
     const struct totals *totals = &replay->totals;
-    bool is_table = replay->request->command == COMMAND_REPLAY &&
+    bool is_table = replay->request->command != COMMAND_SNAPSHOT &&
                     replay->request->form == FORM_TABLE;
     FILE *to = is_table ? stdout : stderr;
     if (is_table)

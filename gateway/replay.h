@@ -16,9 +16,16 @@ enum status replay(struct board *board, const struct request *request, struct fi
 /* Prints the quotes of all instruments, each with its date. */
 enum status print_quotes(const struct board *board, const struct request *request);
 
+/* Prints the lot of the request, with its date. */
+enum status print_lot(const struct board *board, const struct request *request);
+
 /* Lets the library judge what the command line says of the snapshot to write; ends where it is
  * bad. */
 void check_writing(const struct request *request);
+
+/* Writes the book of an instrument as a snapshot message; gives what the library answers. */
+uint64_t write_book(const struct board *board, uint64_t id, const struct writing *writing,
+                    uint8_t *out, size_t out_n);
 
 /* Writes the snapshot that the request asks for to standard output. */
 enum status write_snapshot(const struct board *board, const struct request *request);

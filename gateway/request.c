@@ -5,6 +5,8 @@
 #include <stdlib.h>
 #include <string.h>
 
+#include "selkavorn_lots.h"
+
 /* The exchange sends a heartbeat after 10 silent seconds and calls a stream of 30 silent seconds
  * not functional (its specification, 5.1.1), so an older quote is not given unless asked for. */
 enum { USUAL_LIMIT_S = 30, LONGEST_SILENCE_S = 86400 };
@@ -90,6 +92,13 @@ static void take_instrument(struct request *request, const char *value)
     request->ids_n = 1;
     if (!read_number(value, strlen(value), 18, &request->ids[0]) || request->ids[0] == 0)
         bad_use("not a SecurityID of 1 to 18 digits", value);
+}
+
+static void take_quantity(struct request *request, const char *value)
+{
+    if (!read_number(value, strlen(value), 9, &request->quantity) || request->quantity < 1 ||
+        request->quantity > SELKAVORN_LARGEST_LOT)
+        bad_use("not a quantity of 1 to 999999999", value);
 }
 
 static void take_limit(struct request *request, const char *value)
@@ -192,7 +201,11 @@ static void take_overwrite(struct request *request, const char *value)
     request->overwrite = true;
 }
 
-enum { FEEDING = COMMAND_REPLAY | COMMAND_SNAPSHOT };
+enum {
+    LOTS = COMMAND_SELL | COMMAND_BUY,
+    QUOTING = COMMAND_REPLAY | LOTS,
+    FEEDING = QUOTING | COMMAND_SNAPSHOT
+};
 static const struct option {
     const char *name;
     int commands; /* of enum command, that have it */
@@ -204,12 +217,13 @@ static const struct option {
     {"--silence", FEEDING, true, take_silence},
     {"--snapshots", FEEDING, true, take_snapshots},
     {"--instruments", COMMAND_REPLAY, true, take_instruments},
-    {"--now", COMMAND_REPLAY, true, take_now},
-    {"--limit", COMMAND_REPLAY, true, take_limit},
+    {"--now", QUOTING, true, take_now},
+    {"--limit", QUOTING, true, take_limit},
     {"--quote", COMMAND_REPLAY, false, take_quote},
-    {"--csv", COMMAND_REPLAY | COMMAND_SALVAGE, false, take_csv},
-    {"--json", COMMAND_REPLAY, false, take_json},
-    {"--instrument", COMMAND_SNAPSHOT, true, take_instrument},
+    {"--csv", QUOTING | COMMAND_SALVAGE, false, take_csv},
+    {"--json", QUOTING, false, take_json},
+    {"--quantity", LOTS, true, take_quantity},
+    {"--instrument", LOTS | COMMAND_SNAPSHOT, true, take_instrument},
     {"--sender", COMMAND_SNAPSHOT, true, take_sender},
     {"--target", COMMAND_SNAPSHOT, true, take_target},
     {"--number", COMMAND_SNAPSHOT, true, take_number},
@@ -264,6 +278,14 @@ static void check_replay(const struct request *request)
         bad_use("both recordings cannot be standard input", "--snapshots");
 }
 
+static void check_lot(const struct request *request)
+{
+    check_replay(request);
+    if (request->quantity == 0 || request->ids_n == 0)
+        bad_use("it needs --quantity and --instrument",
+                request->command == COMMAND_SELL ? "sell" : "buy");
+}
+
 static void check_snapshot(const struct request *request)
 {
     const struct writing *writing = &request->writing;
@@ -288,6 +310,8 @@ static const struct {
     void (*check)(const struct request *request); /* what it still lacks */
 } COMMANDS[] = {
     {"replay", COMMAND_REPLAY, check_replay},
+    {"sell", COMMAND_SELL, check_lot},
+    {"buy", COMMAND_BUY, check_lot},
     {"snapshot", COMMAND_SNAPSHOT, check_snapshot},
     {"salvage", COMMAND_SALVAGE, check_salvage},
 };
@@ -298,7 +322,7 @@ static size_t find_command(const char *word)
     for (size_t i = 0; i < sizeof COMMANDS / sizeof COMMANDS[0]; i++)
         if (strcmp(COMMANDS[i].name, word) == 0)
             return i;
-    bad_use("the command is replay, snapshot or salvage", word);
+    bad_use("the command is replay, sell, buy, snapshot or salvage", word);
 }
 
 static void take_words(struct request *request, int argc, char **argv)

@@ -10,9 +10,15 @@
 
 enum { NAME_TEXT = 33 }; /* a name of 32 bytes and its zero byte fit */
 
-enum command { COMMAND_REPLAY = 1, COMMAND_SNAPSHOT = 2, COMMAND_SALVAGE = 4 };
+enum command {
+    COMMAND_REPLAY = 1,
+    COMMAND_SNAPSHOT = 2,
+    COMMAND_SALVAGE = 4,
+    COMMAND_SELL = 8,
+    COMMAND_BUY = 16
+};
 
-/* The forms in which quotes or pieces are printed; pieces are not as JSON. */
+/* The forms in which quotes, lots or pieces are printed; pieces are not as JSON. */
 enum form { FORM_TABLE, FORM_CSV, FORM_JSON };
 
 /* What selkavorn_write takes for a snapshot. */
@@ -29,6 +35,7 @@ struct request {
     const char *now;       /* the moment of the quotes, or NULL for the latest in the recording */
     uint64_t depth;        /* of enum selkavorn_depth */
     uint64_t limit_s;      /* the age of a quote that is still good */
+    uint64_t quantity;     /* the units of a lot; 0 where they are not given */
     uint64_t silence_s;    /* a longer silence is taken for a lost reset; 0: none is */
     enum form form;
     bool quote_only;  /* no line for each message */
@@ -43,11 +50,11 @@ struct request {
 };
 
 enum status {
-    STATUS_GOOD = 0,       /* done: a quote is given, a snapshot written, all salvaged */
+    STATUS_GOOD = 0,       /* done: a quote or lot is given, a snapshot written, all salvaged */
     STATUS_OUTPUT = 1,     /* the output could not be written */
     STATUS_USE = 2,        /* bad use */
     STATUS_FILE = 3,       /* a file could not be read, holds no message, or names no instrument */
-    STATUS_NO_QUOTE = 4,   /* no quote could be given of any instrument, or no snapshot written */
+    STATUS_NO_QUOTE = 4,   /* no quote of any instrument, lot or snapshot could be given */
     STATUS_LOST_RESET = 5, /* none is given: a sequence reset was lost */
     STATUS_DAMAGED = 6     /* bytes of the recording were passed over by a salvage */
 };

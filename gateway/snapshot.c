@@ -4,8 +4,8 @@
 
 #include "replay.h"
 
-static uint64_t write_book(const struct board *board, uint64_t id, const struct writing *writing,
-                           uint8_t *out, size_t out_n)
+uint64_t write_book(const struct board *board, uint64_t id, const struct writing *writing,
+                    uint8_t *out, size_t out_n)
 {
     return selkavorn_write(board->store, SELKAVORN_STORE_NUMBERS, id,
                            (const uint8_t *)writing->sender, strlen(writing->sender),

@@ -1,4 +1,4 @@
-/* Reasons, prices and moments as a person reads them, and the ages between moments. */
+/* Reasons, prices, amounts and moments as a person reads them, and the ages between moments. */
 #include "words.h"
 
 #include <inttypes.h>
@@ -16,16 +16,50 @@ const char *waiting_words(uint64_t reason)
     }
 }
 
-void price_words(uint64_t price, char text[PRICE_TEXT])
+struct amount amount_between(uint64_t from, uint64_t to)
 {
-    int minus = price > INT64_MAX;
-    uint64_t size = minus ? -price : price;
-    int width = snprintf(text, PRICE_TEXT, "%s%" PRIu64 ".%07" PRIu64, minus ? "-" : "",
-                         size / SELKAVORN_PRICE_UNIT, size % SELKAVORN_PRICE_UNIT);
+    bool minus = (int64_t)to < (int64_t)from;
+    return (struct amount){.minus = minus, .size = minus ? from - to : to - from};
+}
+
+/* How many decimals a price has: as many as its unit has zeros. */
+static int price_decimals(void)
+{
+    int decimals = 0;
+    for (uint64_t unit = SELKAVORN_PRICE_UNIT; unit > 1; unit /= 10)
+        decimals++;
+    return decimals;
+}
+
+void amount_words(struct amount amount, char text[PRICE_TEXT])
+{
+    int width = snprintf(text, PRICE_TEXT, "%s%" PRIu64 ".%0*" PRIu64, amount.minus ? "-" : "",
+                         amount.size / SELKAVORN_PRICE_UNIT, price_decimals(),
+                         amount.size % SELKAVORN_PRICE_UNIT);
     while (text[width - 1] == '0')
         text[--width] = '\0';
     if (text[width - 1] == '.')
         text[--width] = '\0';
+}
+
+void price_words(uint64_t price, char text[PRICE_TEXT])
+{
+    amount_words(amount_between(0, price), text);
+}
+
+/* What is left of a division is below the divisor, which is below 10^18, so ten times it fits. */
+bool average_words(uint64_t sum, uint64_t units, char text[AVERAGE_TEXT])
+{
+    struct amount amount = amount_between(0, sum);
+    uint64_t divisor = units * SELKAVORN_PRICE_UNIT, rest = amount.size % divisor;
+    int width = snprintf(text, AVERAGE_TEXT, "%s%" PRIu64 "%s", amount.minus ? "-" : "",
+                         amount.size / divisor, rest > 0 ? "." : "");
+    for (int i = 0; i < AVERAGE_DECIMALS && rest > 0; i++) {
+        text[width++] = (char)('0' + rest * 10 / divisor);
+        rest = rest * 10 % divisor;
+    }
+    text[width] = '\0';
+    return rest == 0;
 }
 
 void moment_words(uint64_t date, uint64_t time, char text[MOMENT_TEXT])
