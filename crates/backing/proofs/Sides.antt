@@ -20,7 +20,7 @@ use Rattle.cells.specs.Cells.{sideAt}
 use Rattle.board.specs.Board.{Inst, Board, look, at}
 use Rattle.board.specs.Ranges.{idFine}
 use Rattle.store.specs.Layout.{bidsOf, offersOf}
-use Rattle.store.specs.Meaning.{boardIn, instAt, boardAt, loaded}
+use Rattle.store.specs.Meaning.{instAt, boardAt, loaded}
 use Rattle.store.proofs.Decode.{insts-length, at-board}
 use Rattle.sound.specs.Sound.{sound}
 use Rattle.sound.proofs.Readers.{formed}

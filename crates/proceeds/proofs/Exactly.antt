@@ -13,7 +13,7 @@ use Rattle.sums.specs.Sums.{fits}
 use Rattle.proceeds.specs.declared.Sale.{Sale}
 use Rattle.proceeds.specs.declared.Lot.{Lot}
 use Rattle.proceeds.specs.Lots.{unitsOf, leftOf, valueOf, sumOver, sumAfter, allFit, lotOf}
-use Rattle.proceeds.specs.Laws.{total, sizes, Exactly, LotsAreExact}
+use Rattle.proceeds.specs.Laws.{total, sizes, LotsAreExact}
 use Rattle.proceeds.proofs.Runs.{whole}
 
 -- ---- units

@@ -98,17 +98,20 @@ at-place a held i d h k =
     let l : i < length (take held a) = rw (length-take held a) (omega arith) in
     drop-cons (take held a) i d l ∙ rw (getD-take held a i d h, add-one i)
 
--- a turn from a level, at the place with the index i, by the level that was told
-module _ (a : List Entry) (held i level left : ℕ) (d : Entry) (h : i < held) (k : i < length a) where
-  pub turn-out : levelOf (next (sumOf level) left (getD a i d)) ≡ Level.Out → run (sumOf level) left (drop i (take held a)) ≡ Lot.Over
-  unfolding run
-  turn-out e = ap (run (sumOf level) left) (at-place a held i d h k) ∙ rw (none (next (sumOf level) left (getD a i d)) e)
+-- a turn from a level, at the place with the index i: so many units at a price, and the level that was told
+module _ (a : List Entry) (held i level left : ℕ) (d : Entry) (h : i < held) (k : i < length a)
+    (price : ℤ) (units : ℕ) (p : price ≡ getD a i d .price) (u : units ≡ min left (getD a i d .size)) where
+  is-next : sumOf level +ℤ price *ℤ pos units ≡ next (sumOf level) left (getD a i d)
+  is-next = rw (p, u)
 
-  pub turn-on : (to : ℕ) → levelOf (next (sumOf level) left (getD a i d)) ≡ Level.At to
-      → (to ≤ most)
-      × (run (sumOf level) left (drop i (take held a)) ≡ run (sumOf to) (left - min left (getD a i d .size)) (drop (i + 1) (take held a)))
+  pub turn-out : levelOf (sumOf level +ℤ price *ℤ pos units) ≡ Level.Out → run (sumOf level) left (drop i (take held a)) ≡ Lot.Over
+  unfolding run
+  turn-out e = ap (run (sumOf level) left) (at-place a held i d h k) ∙ rw (none (next (sumOf level) left (getD a i d)) (ap levelOf (sym is-next) ∙ e))
+
+  pub turn-on : (to : ℕ) → levelOf (sumOf level +ℤ price *ℤ pos units) ≡ Level.At to
+      → (to ≤ most) × (run (sumOf level) left (drop i (take held a)) ≡ run (sumOf to) (left - units) (drop (i + 1) (take held a)))
   unfolding run
   turn-on to e =
-      let s : Stands (next (sumOf level) left (getD a i d)) to = stands (next (sumOf level) left (getD a i d)) to e in
-      let m : left - getD a i d .size ≡ left - min left (getD a i d .size) = omega arith in
+      let s : Stands (next (sumOf level) left (getD a i d)) to = stands (next (sumOf level) left (getD a i d)) to (ap levelOf (sym is-next) ∙ e) in
+      let m : left - getD a i d .size ≡ left - units = omega (arith, u) in
       (s .small, ap (run (sumOf level) left) (at-place a held i d h k) ∙ rw (s .fine) (rw (s .sum, m)))

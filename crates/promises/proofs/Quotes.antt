@@ -21,7 +21,6 @@ use Rattle.opening.specs.Opening.{openAnswer, openStore}
 use Rattle.quote.specs.Quotes.{mostLimit, given, quoteAt, atNow, quoteOf}
 use Rattle.quote.specs.declared.Quoted.{Quoted}
 use Rattle.ask.specs.Ask.{quoteSize, quoteNumber, quoteValues, quoteAnswer, quoteOut}
-use Rattle.book.specs.Rules.{leaves}
 use Rattle.board.specs.Demand.{NumberedFromOne, NeverBreaks, bookAt, Right}
 use Rattle.board.proofs.Staying.{same-calls}
 use Rattle.promises.specs.Acts.{Act, lefts, Along}

@@ -11,7 +11,7 @@ use borrow.Author.Tests.{ltb-true, ltb-false, lt-ltb, le-ltb, leb-true, leb-fals
 use mir.Syntax.{w64}
 use mir.Val.{SFits, toZ, ofZ}
 use mir.Facts.{toZ-ofZ}
-use Rattle.sums.specs.Sums.{fits, half, sumOf, levelOf}
+use Rattle.sums.specs.Sums.{mostAbove, mostBelow, fits, half, sumOf, levelOf}
 use Rattle.sums.specs.Products.{productOf}
 use Rattle.sums.specs.declared.Product.{Product}
 use Rattle.sums.specs.declared.Level.{Level}
@@ -78,7 +78,7 @@ minus l (suc y) g = go (ltb l half) refl
 -- ---- what fits
 fits-neg : (n : ℕ) → half ≤ n → fits (negsuc n) ≡ false
 unfolding fits
-fits-neg n h = rw (lt-leb n 9223372036854775807 (omega arith))
+fits-neg n h = rw (lt-leb n mostBelow (omega arith))
 
 pub fits-sum : (l : ℕ) → l ≤ most → fits (sumOf l) ≡ true
 unfolding fits
@@ -87,14 +87,14 @@ fits-sum l g = go (ltb l half) refl
     go : (t : Bool) → ltb l half ≡ t → fits (sumOf l) ≡ true
     go true h =
         let k : l < half = ltb-true l half h in
-        rw (sum-below l k, le-leb (half - suc l) 9223372036854775807 (omega arith))
+        rw (sum-below l k, le-leb (half - suc l) mostBelow (omega arith))
     go false h =
         let k : half ≤ l = ltb-false l half h in
-        rw (sum-above l k, le-leb (l - half) 9223372036854775807 (omega arith))
+        rw (sum-above l k, le-leb (l - half) mostAbove (omega arith))
 
 past-top : (l : ℕ) → most < l → fits (sumOf l) ≡ false
 unfolding fits
-past-top l g = rw (sum-above l (omega arith), lt-leb (l - half) 9223372036854775807 (omega arith))
+past-top l g = rw (sum-above l (omega arith), lt-leb (l - half) mostAbove (omega arith))
 
 past-bottom : (l x : ℕ) → l < x → fits (sumOf l +ℤ negℤ (pos x)) ≡ false
 past-bottom l zero g = absurd (omega arith)
@@ -138,13 +138,13 @@ never a e = let z : _≡_ {A = ℕ} 0 1 = cc in omega arith
 at-level : (z : ℤ) → fits z ≡ true → Stands z (natAbs (z +ℤ pos half))
 unfolding fits
 at-level (pos n) h =
-    let k = leb-true n 9223372036854775807 h in
+    let k = leb-true n mostAbove h in
     record { sum = sym (sum-above (n + half) (omega arith) ∙ ap pos (omega arith)); fine = h; small = omega arith }
-at-level (negsuc n) h = go (leb n 9223372036854775807) refl h
+at-level (negsuc n) h = go (leb n mostBelow) refl h
   where
-    go : (t : Bool) → leb n 9223372036854775807 ≡ t → t && true ≡ true → Stands (negsuc n) (natAbs (negsuc n +ℤ pos half))
+    go : (t : Bool) → leb n mostBelow ≡ t → t && true ≡ true → Stands (negsuc n) (natAbs (negsuc n +ℤ pos half))
     go true q e =
-        let k = leb-true n 9223372036854775807 q in
+        let k = leb-true n mostBelow q in
         rw (sub-above half (suc n) (omega arith))
         (record { sum = sym (sum-below (half - suc n) (omega arith) ∙ ap negsuc (omega arith)); fine = h; small = omega arith })
     go false q e = absurd (false≢true e)

@@ -5,9 +5,16 @@ use lib.IntN.{ℤ, pos, negsuc, natAbs, subℕ, _+ℤ_}
 use lib.Signed.{leZ}
 use Rattle.sums.specs.declared.Level.{Level}
 
+-- The greatest number of 64 bits, 2^63 - 1, and how far the least one, -2^63, lies below -1.
+abbrev pub mostAbove : ℕ
+mostAbove = 9223372036854775807
+
+abbrev pub mostBelow : ℕ
+mostBelow = 9223372036854775807
+
 -- From -2^63 to 2^63 - 1.
 unfoldable pub fits : ℤ → Bool
-fits z = leZ (negsuc 9223372036854775807) z && leZ z (pos 9223372036854775807)
+fits z = leZ (negsuc mostBelow) z && leZ z (pos mostAbove)
 
 -- 2^63.
 abbrev pub half : ℕ

@@ -1,10 +1,7 @@
 -- `deal` meets its contract: the quote with its side, the lot, its numbers.
-use mathlib.Core.Path.{_≡_, sym, ap, _∙_, subst}
+use mathlib.Core.Path.{sym, _∙_, subst}
 use lib.ListN.{length}
-use Rattle.ask.specs.Ask.{roomAfter}
-use Rattle.lots.specs.declared.Lotted.{Lotted}
-use Rattle.lots.specs.Lots.{onQuote, lottedOf, lotNumber}
-use Rattle.lots.specs.Rooms.{lotWords, inRoom, FineLot, lotAnswer, lotOut, Dealt}
+use Rattle.lots.specs.Rooms.{FineLot}
 use Rattle.lots.proofs.Tests.{lot-is, dealt, lot-fine}
 use borrow.Author.Needs.{needs}
 use Rattle.lots.proofs.deal.Statement.{statement}

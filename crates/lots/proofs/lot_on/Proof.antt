@@ -1,9 +1,6 @@
 -- `lot_on` meets its contract: the quote's refusals, the quantity, the side behind the quote.
-use mathlib.Core.Path.{ap, _∙_}
+use mathlib.Core.Path.{_∙_}
 use Rattle.book.specs.Canonical.{heldIn}
-use Rattle.book.specs.declared.Side.{Side}
-use Rattle.proceeds.specs.Lots.{lotOf}
-use Rattle.lots.specs.Lots.{dated}
 use Rattle.lots.proofs.Tests.{passes, bad-units, good-units, no-units, brought}
 use borrow.Author.Needs.{needs}
 use Rattle.lots.proofs.lot_on.Statement.{statement}

@@ -1,6 +1,5 @@
 -- `tell` meets its contract: a lot is written, a refusal writes nothing.
-use mathlib.Core.Path.{_≡_, sym, ap, _∙_, subst}
-use Prim.Native.Nat.{ℕ}
+use mathlib.Core.Path.{sym, ap, _∙_, subst}
 use lib.ListN.{length}
 use Rattle.ask.specs.Ask.{roomAfter}
 use Rattle.lots.specs.declared.Lotted.{Lotted}

@@ -66,11 +66,12 @@ enum-told c = search needs
 
 returns-3 : tie.Need-returns-3 Inv-loop μ-loop
 returns-3 c =
-    let f = c .before .before .before .struct-told .given .0 .1 in
+    let p = toZ-ofZ {w = w64} (record { sfits = c .before .before .before .struct-told .given .0 .1 }) in
     let l = c .before .before .before .before .before .before .before .before .before .loop in
     let x = c .before .before .before .before .before .before .before .before .before .before .args in
+    let u = c .before .before .before .before .least .ensures in
     let e = sym (c .before .before .moved .ensures) ∙ c .enum-told .given .1 in
-    sym (l .inv .4 ∙ turn-out (x .t1) (x .held) (l .i) (l .level) (l .left) _ (omega arith) (omega arith) (rw (c .before .before .before .before .least .ensures, toZ-ofZ {w = w64} (record { sfits = f })) at e))
+    sym (l .inv .4 ∙ turn-out (x .t1) (x .held) (l .i) (l .level) (l .left) _ (omega arith) (omega arith) _ _ p u e)
 
 sub-left : tie.Need-sub-left Inv-loop μ-loop
 sub-left c = omega (arith, c .before .before .before .before .before .least .ensures)
@@ -83,13 +84,13 @@ loop-less c = search needs
 
 loop-again : tie.Need-loop-again Inv-loop μ-loop
 loop-again c =
-    let f = c .before .before .before .before .struct-told .given .0 .1 in
+    let p = toZ-ofZ {w = w64} (record { sfits = c .before .before .before .before .struct-told .given .0 .1 }) in
     let l = c .before .before .before .before .before .before .before .before .before .before .loop in
     let x = c .before .before .before .before .before .before .before .before .before .before .before .args in
-    let e = sym (c .before .before .before .moved .ensures) ∙ c .before .next .given .1 in
     let u = c .before .before .before .before .before .least .ensures in
-    let t = turn-on (x .t1) (x .held) (l .i) (l .level) (l .left) _ (omega arith) (omega arith) (c .before .next .given .0 .0) (rw (u, toZ-ofZ {w = w64} (record { sfits = f })) at e) in
-    (t .0, omega arith, omega arith, l .inv .3, rw u (l .inv .4 ∙ t .1))
+    let e = sym (c .before .before .before .moved .ensures) ∙ c .before .next .given .1 in
+    let t = turn-on (x .t1) (x .held) (l .i) (l .level) (l .left) _ (omega arith) (omega arith) _ _ p u (c .before .next .given .0 .0) e in
+    (t .0, omega arith, omega arith, l .inv .3, l .inv .4 ∙ t .1)
 
 ended-requires-3 : tie.Need-ended-requires-3 Inv-loop μ-loop
 ended-requires-3 c κs = search needs
