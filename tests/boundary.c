@@ -2,8 +2,9 @@
  *
  * Every answer number is reached. Around every call the lent runs are watched: a refusal must leave
  * store and output as they were, and nothing may touch the guards around them, what lies beyond a
- * store's 7,168 numbers, or what lies beyond a quote, a state, a summary, a written message or the
- * pieces of a recording. What a call only reads ends where memory that cannot be read begins. */
+ * store's 7,168 numbers, or what lies beyond a quote, a lot, a state, a summary, a written message
+ * or the pieces of a recording. What a call only reads ends where memory that cannot be read
+ * begins. */
 #define _DEFAULT_SOURCE /* for MAP_ANONYMOUS */
 
 #include <inttypes.h>
@@ -14,7 +15,7 @@
 #include <string.h>
 #include <sys/mman.h>
 
-#include "selkavorn.h"
+#include "selkavorn_lots.h"
 
 enum {
     GUARD = 65,          /* odd, so that a store starts at an odd multiple of 8 bytes */
@@ -35,6 +36,8 @@ static unsigned passed, failed;
 static const char *group_name = "";
 static unsigned passed_before, failed_before; /* the group */
 static bool reached[256];                     /* answer numbers */
+enum way { SELL, BUY, WAYS };
+static bool lot_reached[WAYS][256];           /* answer numbers of selling and of buying */
 
 static void begin(const char *name)
 {
@@ -157,7 +160,7 @@ static void check_outputs(size_t wrote_numbers, size_t wrote_bytes)
     check(good, "outputs and their guards");
 }
 
-/* ---- the seven calls, watched ---- */
+/* ---- the nine calls, watched ---- */
 
 static uint64_t open_board(struct board *board, uint64_t depth, const uint64_t *ids, size_t ids_n)
 {
@@ -201,6 +204,34 @@ static uint64_t quote(struct board *board, uint64_t id, const char *now, uint64_
     reached[SELKAVORN_ANSWER(answer)] = true;
     check_store(board, 0);
     check_outputs(answer == SELKAVORN_DONE ? SELKAVORN_QUOTE_NUMBERS : 0, 0);
+    return answer;
+}
+
+/* What a lot is given beside the board. */
+struct lot {
+    enum way way;
+    uint64_t id, quantity;
+    const char *now;
+    uint64_t limit_s;
+    size_t room;
+};
+
+/* The shape that selling and buying share. */
+typedef uint64_t lot_call(const uint64_t *store, size_t store_n, uint64_t id, uint64_t quantity,
+                          const uint8_t *now, size_t now_n, uint64_t limit_s, uint64_t *out,
+                          size_t out_n);
+static lot_call *const lot_calls[WAYS] = {selkavorn_sell, selkavorn_buy};
+
+static uint64_t take_lot(struct board *board, struct lot lot)
+{
+    before_call(board);
+    uint64_t answer = lot_calls[lot.way](store_of(board), board->n, lot.id, lot.quantity,
+                                         lend_text(MOMENT, lot.now), strlen(lot.now), lot.limit_s,
+                                         numbers, lot.room);
+    reached[SELKAVORN_ANSWER(answer)] = true;
+    lot_reached[lot.way][SELKAVORN_ANSWER(answer)] = true;
+    check_store(board, 0);
+    check_outputs(answer == SELKAVORN_DONE ? SELKAVORN_LOT_NUMBERS : 0, 0);
     return answer;
 }
 
@@ -549,6 +580,12 @@ static void check_refused_store(const char *what)
     check_equal(state(&first, 7, 4), SELKAVORN_STORE, what);
     check_equal(summary(&first, 5), SELKAVORN_STORE, what);
     check_equal(write_book(&first, w), SELKAVORN_STORE, what);
+    for (enum way way = SELL; way < WAYS; way++) {
+        struct lot lot = {way, 7, 1, "20250103-13:00:00", 30, SELKAVORN_LOT_NUMBERS};
+        check_equal(take_lot(&first, lot), SELKAVORN_STORE, what);
+        lot = (struct lot){way, 0, 0, "", 86401, 0};
+        check_equal(take_lot(&first, lot), SELKAVORN_STORE, "17 before 18");
+    }
     w.k = 0;
     check_equal(feed_bytes(&first, NULL, 0), SELKAVORN_STORE, "17 before 11");
     check_equal(quote(&first, 0, "", 86401, 0), SELKAVORN_STORE, "17 before 18");
@@ -577,6 +614,9 @@ static void test_store(void)
                   selkavorn_state(store, first.n, 7, out, SELKAVORN_STATE_NUMBERS) ==
                       SELKAVORN_STORE &&
                   selkavorn_board(store, first.n, out, SELKAVORN_BOARD_NUMBERS) == SELKAVORN_STORE;
+        for (enum way way = SELL; way < WAYS; way++)
+            noticed = noticed && lot_calls[way](store, first.n, 7, 1, NULL, 0, 30, out,
+                                                SELKAVORN_LOT_NUMBERS) == SELKAVORN_STORE;
         store[i] = kept;
     }
     check(noticed, "each number, when it is out of its range");
@@ -585,6 +625,9 @@ static void test_store(void)
     first.n = SELKAVORN_STORE_NUMBERS;
     check_equal(state(&first, 7, SELKAVORN_STATE_NUMBERS), SELKAVORN_DONE, "a store of 7,168");
     check_equal(selkavorn_feed(NULL, 0, NULL, 0), SELKAVORN_STORE, "no store, NULL");
+    for (enum way way = SELL; way < WAYS; way++)
+        check_equal(lot_calls[way](NULL, 0, 7, 1, NULL, 0, 30, NULL, 0), SELKAVORN_STORE,
+                    "a lot, no store, NULL");
     end();
 }
 
@@ -596,17 +639,18 @@ static void open_with_book(struct board *board)
     feed(board, SELKAVORN_DONE, 1, "both sides", "35=X|34=1|" AT "268=2|" NEW_BID NEW_OFFER);
 }
 
+static const char *const bad_moments[] = {
+    "", "20250103", "20250103-13:00", "20250229-13:00:00", "19000229-13:00:00",
+    "20250103-24:00:00", "20250103-13:60:00", "20250103-13:00:61", "20250103-13:00:00.",
+    "20250103-13:00:00.00", "20250103-13:00:00.0000", "20250103 13:00:00", "20250103-13:00:00Z"};
+enum { BAD_MOMENTS = sizeof bad_moments / sizeof *bad_moments };
+
 static void test_quote_arguments(void)
 {
-    static const char *const bad[] = {
-        "", "20250103", "20250103-13:00", "20250229-13:00:00", "19000229-13:00:00",
-        "20250103-24:00:00", "20250103-13:60:00", "20250103-13:00:61", "20250103-13:00:00.",
-        "20250103-13:00:00.00", "20250103-13:00:00.0000", "20250103 13:00:00",
-        "20250103-13:00:00Z"};
     begin("arguments of a quote");
     open_with_book(&first);
-    for (size_t i = 0; i < sizeof bad / sizeof *bad; i++)
-        check_equal(quote(&first, 7, bad[i], 30, 17), SELKAVORN_ARGUMENT, bad[i]);
+    for (size_t i = 0; i < BAD_MOMENTS; i++)
+        check_equal(quote(&first, 7, bad_moments[i], 30, 17), SELKAVORN_ARGUMENT, bad_moments[i]);
     check_equal(selkavorn_quote(store_of(&first), first.n, 7, NULL, 0, 30, numbers, 17),
                 SELKAVORN_ARGUMENT, "no moment, NULL");
     check_equal(quote(&first, 7, "20250103-13:00:00", 86401, 17), SELKAVORN_ARGUMENT, "limit");
@@ -654,6 +698,240 @@ static void test_quote(void)
     for (size_t i = 0; i < 7; i++)
         check_equal(numbers[SELKAVORN_QUOTE_BID + i], 0, "an empty side is zeros");
     check_equal(numbers[SELKAVORN_QUOTE_OFFER], 1, "the offer is held");
+    end();
+}
+
+/* A lot of 7 that is good wherever its sums fit. */
+static struct lot good_lot(enum way way, uint64_t quantity)
+{
+    return (struct lot){way, 7, quantity, "20250103-13:00:00", 30, SELKAVORN_LOT_NUMBERS};
+}
+
+/* Asks the first board for a lot. */
+static void check_lot(struct lot lot, uint64_t answer, const char *what)
+{
+    check_equal(take_lot(&first, lot), answer, what);
+}
+
+/* Asks for a lot that must be given, dated by message 1. */
+static void check_given(struct lot lot, int64_t sum, uint64_t left, const char *what)
+{
+    check_lot(lot, SELKAVORN_DONE, what);
+    check_equal(numbers[SELKAVORN_LOT_NUMBER], 1, what);
+    check_equal(numbers[SELKAVORN_LOT_HEARD_DATE], 20250103, what);
+    check_equal(numbers[SELKAVORN_LOT_HEARD_TIME], 130000000, what);
+    check_equal(numbers[SELKAVORN_LOT_SUM], (uint64_t)sum, what);
+    check_equal(numbers[SELKAVORN_LOT_LEFT], left, what);
+}
+
+static void test_lot_arguments(enum way way)
+{
+    static const char now[] = "20250103-13:00:00";
+    const uint64_t n = SELKAVORN_LOT_NUMBERS;
+    begin(way == SELL ? "arguments of selling" : "arguments of buying");
+    open_with_book(&first);
+    for (size_t i = 0; i < BAD_MOMENTS; i++)
+        check_lot((struct lot){way, 7, 1, bad_moments[i], 30, n}, SELKAVORN_ARGUMENT,
+                  bad_moments[i]);
+    check_equal(lot_calls[way](store_of(&first), first.n, 7, 1, NULL, 0, 30, numbers, n),
+                SELKAVORN_ARGUMENT, "no moment, NULL");
+    check_lot((struct lot){way, 7, 1, now, 86401, n}, SELKAVORN_ARGUMENT, "limit");
+    check_lot((struct lot){way, 7, 1, now, UINT64_MAX, n}, SELKAVORN_ARGUMENT, "limit");
+    check_lot((struct lot){way, 0, 1, now, 30, n}, SELKAVORN_ARGUMENT, "SecurityID 0");
+    check_lot((struct lot){way, 1000000000000000000, 1, now, 30, n}, SELKAVORN_ARGUMENT, "id");
+    check_lot((struct lot){way, UINT64_MAX, 1, now, 30, n}, SELKAVORN_ARGUMENT, "id");
+    for (size_t room = 0; room < n; room++)
+        check_lot((struct lot){way, 7, 1, now, 30, room}, SELKAVORN_ARGUMENT, "too little room");
+    check_equal(lot_calls[way](store_of(&first), first.n, 7, 1, (const uint8_t *)now, 17, 30, NULL,
+                               0),
+                SELKAVORN_ARGUMENT, "no room, NULL");
+    check_lot(good_lot(way, 0), SELKAVORN_ARGUMENT, "no quantity");
+    check_lot(good_lot(way, SELKAVORN_LARGEST_LOT + 1), SELKAVORN_ARGUMENT, "1,000,000,000");
+    check_lot(good_lot(way, UINT64_C(1) << 32 | 1), SELKAVORN_ARGUMENT, "1 above 32 bits");
+    check_lot(good_lot(way, UINT64_MAX), SELKAVORN_ARGUMENT, "the largest number");
+    check_lot(good_lot(way, 1), SELKAVORN_DONE, "one unit");
+    check_lot(good_lot(way, SELKAVORN_LARGEST_LOT), SELKAVORN_DONE, "999,999,999");
+    check_lot((struct lot){way, 7, 1, now, 30, 17}, SELKAVORN_DONE, "more room");
+    end();
+}
+
+/* What a quote refuses comes before the quantity, and 18 of the room before that. */
+static void test_lot_order(enum way way)
+{
+    static const uint64_t quantities[] = {1, 0, SELKAVORN_LARGEST_LOT + 1, UINT64_MAX};
+    static const char now[] = "20250103-13:00:00", early[] = "20250103-12:59:59.999",
+                      late[] = "20250103-13:00:30.001";
+    const size_t n = SELKAVORN_LOT_NUMBERS;
+    begin(way == SELL ? "order of checks in selling" : "order of checks in buying");
+    for (size_t i = 0; i < sizeof quantities / sizeof *quantities; i++) {
+        const uint64_t q = quantities[i];
+        open_fresh(&first, SELKAVORN_ORDER_DEPTH);
+        check_lot((struct lot){way, 8, q, now, 30, n}, SELKAVORN_UNFOLLOWED, "8");
+        check_lot((struct lot){way, 7, q, now, 30, n}, SELKAVORN_WAITING, "7 waits");
+        check_lot((struct lot){way, 8, q, now, 30, n - 1}, SELKAVORN_ARGUMENT, "18 before 20");
+        check_lot((struct lot){way, 7, q, now, 86401, n}, SELKAVORN_ARGUMENT, "18 before 21");
+        feed(&first, SELKAVORN_TAKEN, 1, "369 = 0", EMPTY_W, 7, 0);
+        check_lot((struct lot){way, 7, q, now, 30, n}, SELKAVORN_UNHEARD, "H = 0");
+        check_lot((struct lot){way, 7, q, now, 30, 0}, SELKAVORN_ARGUMENT, "18 before 22");
+        open_with_book(&first);
+        check_lot((struct lot){way, 9, q, now, 30, n}, SELKAVORN_WAITING, "9 waits");
+        check_lot((struct lot){way, 7, q, early, 30, n}, SELKAVORN_AGE_BELOW, "before");
+        check_lot((struct lot){way, 7, q, late, 30, n}, SELKAVORN_AGE_ABOVE, "after");
+        check_lot((struct lot){way, 7, q, early, 30, n - 1}, SELKAVORN_ARGUMENT, "18 before 23");
+        check_lot((struct lot){way, 7, q, late, 30, n - 1}, SELKAVORN_ARGUMENT, "18 before 24");
+        check_lot((struct lot){way, 7, q, "20250103-13:00:30", 30, n},
+                  q == 1 ? SELKAVORN_DONE : SELKAVORN_ARGUMENT, "at the limit");
+    }
+    end();
+}
+
+/* A place of a book: price and size. */
+struct row {
+    const char *price;
+    uint64_t size;
+};
+enum { MOST_ROWS = 3 };
+typedef struct row rows[MOST_ROWS]; /* a side; a row without a price ends it */
+
+/* Adds the entries of a side to those of a snapshot; gives how many bytes there are then. */
+static size_t add_side(char *entries, size_t n, size_t room, int side, const struct row *row)
+{
+    for (int i = 0; i < MOST_ROWS && row[i].price != NULL; i++)
+        n += (size_t)snprintf(entries + n, room - n,
+                              "269=%d|270=%s|271=%" PRIu64 "|37=A%d|346=1|" STAMP "290=%d|", side,
+                              row[i].price, row[i].size, i + 1, i + 1);
+    return n;
+}
+
+static int count_rows(const struct row *row)
+{
+    int n = 0;
+    while (n < MOST_ROWS && row[n].price != NULL)
+        n++;
+    return n;
+}
+
+/* Opens the first board, hears message 1, and gives 7 this book; 9 waits. */
+static void open_with_rows(uint64_t depth, const struct row *bids, const struct row *offers)
+{
+    char entries[MESSAGE_ROOM / 2] = "";
+    size_t n = add_side(entries, 0, sizeof entries, 0, bids);
+    add_side(entries, n, sizeof entries, 1, offers);
+    open_fresh(&first, depth);
+    feed(&first, SELKAVORN_DONE, 2, "1 in order", HEARTBEAT, 1);
+    feed(&first, SELKAVORN_TAKEN, 1, "the book", "35=W|34=1|" AT "48=7|22=8|369=1|911=1|268=%d|%s",
+         count_rows(bids) + count_rows(offers), entries);
+}
+
+static void test_lot(void)
+{
+    static const rows bids = {{"10.58", 5000}, {"10.57", 4000}, {"10.54", 3000}};
+    static const rows offers = {{"11.03", 7000}, {"-0.5", 2000}}, none = {{NULL, 0}};
+    begin("lots");
+    for (uint64_t depth = 0; depth < 2; depth++) {
+        open_with_rows(depth, bids, offers);
+        check_given(good_lot(SELL, 1), 105800000, 0, "a unit sold");
+        check_given(good_lot(SELL, 5000), 529000000000, 0, "place 1 whole");
+        check_given(good_lot(SELL, 5001), 529105700000, 0, "one unit of place 2");
+        check_given(good_lot(SELL, 6000), 634700000000, 0, "place 2 in part");
+        check_given(good_lot(SELL, 12000), 1268000000000, 0, "all bids");
+        check_given(good_lot(SELL, 12001), 1268000000000, 1, "one unit left");
+        check_given(good_lot(SELL, SELKAVORN_LARGEST_LOT), 1268000000000, 999987999, "much left");
+        check_given(good_lot(BUY, 1), 110300000, 0, "a unit bought");
+        check_given(good_lot(BUY, 7001), 772095000000, 0, "a price below 0");
+        check_given(good_lot(BUY, 9001), 762100000000, 1, "one unit not bought");
+        open_with_rows(depth, none, offers);
+        check_given(good_lot(SELL, 6000), 0, 6000, "no bids");
+        check_given(good_lot(BUY, 7000), 772100000000, 0, "offers alone");
+        open_with_rows(depth, bids, none);
+        check_given(good_lot(BUY, SELKAVORN_LARGEST_LOT), 0, SELKAVORN_LARGEST_LOT, "no offers");
+        check_given(good_lot(SELL, 9000), 951800000000, 0, "bids alone");
+    }
+    feed(&first, SELKAVORN_DONE, 1, "bid deleted",
+         "35=X|34=2|52=20250103-13:00:60|268=1|" DELETE_BID);
+    check_lot((struct lot){SELL, 7, 1, "20250103-13:01:00", 0, SELKAVORN_LOT_NUMBERS},
+              SELKAVORN_DONE, "the next bid");
+    check_equal(numbers[SELKAVORN_LOT_NUMBER], 2, "H");
+    check_equal(numbers[SELKAVORN_LOT_HEARD_DATE], 20250103, "the heard date");
+    check_equal(numbers[SELKAVORN_LOT_HEARD_TIME], 130060000, "a second of 60 stays 60");
+    check_equal(numbers[SELKAVORN_LOT_SUM], 105700000, "what is place 1 now");
+    end();
+}
+
+/* A side and a quantity of it. 153,092,023 times 60,247,241,209 is 2^63 - 1, 2^29 times 2^34 is
+ * 2^63, and 119,537,721 times 77,158,673,929 is 2^63 + 1. */
+struct aimed {
+    const char *what;
+    rows side;
+    uint64_t quantity;
+};
+
+static const struct {
+    struct aimed aimed;
+    int64_t sum;
+    uint64_t left;
+} fitting[] = {
+    {{"2^63 - 1", {{"6024.7241209", 153092023}}, 153092023}, INT64_MAX, 0},
+    {{"2^63 - 1, and more left", {{"6024.7241209", 153092023}}, 153092024}, INT64_MAX, 1},
+    {{"2^63 - 1, the place cut", {{"6024.7241209", 999999999999}}, 153092023}, INT64_MAX, 0},
+    {{"2^63 - 2^34", {{"1717.9869184", 536870912}}, 536870911}, 9223372019674906624, 0},
+    {{"-2^63", {{"-1717.9869184", 536870912}}, 536870912}, INT64_MIN, 0},
+    {{"-2^63, and more left", {{"-1717.9869184", 536870912}}, 536870913}, INT64_MIN, 1},
+    {{"a unit from below", {{"-7715.8673929", 119537721}}, 119537720}, -9223371959696101880, 0},
+    {{"2^63 - 1 at place 2", {{"1717.9869184", 536870911}, {"1717.9869183", 9}}, 536870912},
+     INT64_MAX, 0},
+    {{"-2^63 at place 2", {{"-1717.9869184", 536870911}, {"-1717.9869184", 9}}, 536870912},
+     INT64_MIN, 0},
+    {{"a product of 2^63", {{"-0.0000001", 1}, {"1717.9869184", 536870912}}, 536870913},
+     INT64_MAX, 0},
+    {{"a product of -2^63 - 1", {{"0.0000001", 1}, {"-7715.8673929", 119537721}}, 119537722},
+     INT64_MIN, 0},
+    {{"a product of 2^64 - 2^28", {{"-1717.9869184", 536870912}, {"6871.9476735", 268435456}},
+      805306368},
+     9223372036586340352, 0},
+    {{"922 units of the highest price", {{"999999999.9999999", 999999999999}}, 922},
+     9219999999999999078, 0}};
+
+static const struct aimed over[] = {
+    {"past 2^63 - 1", {{"6024.7241209", 999999999999}}, 153092024},
+    {"2^63", {{"1717.9869184", 536870912}}, 536870912},
+    {"2^63, and more left", {{"1717.9869184", 536870912}}, 999999999},
+    {"-2^63 - 1", {{"-7715.8673929", 119537721}}, 119537721},
+    {"2^63 at place 2", {{"1717.9869184", 536870911}, {"1717.9869184", 9}}, 536870912},
+    {"-2^63 - 1 at place 2", {{"-1717.9869184", 536870911}, {"-1717.9869185", 9}}, 536870912},
+    {"out above and back", {{"1717.9869184", 536870912}, {"-0.0000001", 5}}, 536870913},
+    {"out below and back", {{"-1717.9869184", 536870912}, {"-0.0000001", 1}, {"0.0000001", 5}},
+     536870914},
+    {"923 units of the highest price", {{"999999999.9999999", 999999999999}}, 923},
+    {"the largest lot of the lowest price", {{"-999999999.9999999", 999999999999}}, 999999999}};
+
+static void test_lot_bounds(void)
+{
+    begin("bounds of a lot's sums");
+    for (size_t i = 0; i < sizeof fitting / sizeof *fitting; i++) {
+        const struct aimed *aimed = &fitting[i].aimed;
+        open_with_rows(i % 2, aimed->side, aimed->side);
+        for (enum way way = SELL; way < WAYS; way++)
+            check_given(good_lot(way, aimed->quantity), fitting[i].sum, fitting[i].left,
+                        aimed->what);
+    }
+    for (size_t i = 0; i < sizeof over / sizeof *over; i++) {
+        open_with_rows(i % 2, over[i].side, over[i].side);
+        for (enum way way = SELL; way < WAYS; way++)
+            check_lot(good_lot(way, over[i].quantity), SELKAVORN_SUM_OVER, over[i].what);
+    }
+    for (enum way way = SELL; way < WAYS; way++) {
+        struct lot lot = good_lot(way, SELKAVORN_LARGEST_LOT);
+        lot.room = SELKAVORN_LOT_NUMBERS + 1;
+        check_lot(lot, SELKAVORN_SUM_OVER, "35, more room");
+        lot.room = SELKAVORN_LOT_NUMBERS - 1;
+        check_lot(lot, SELKAVORN_ARGUMENT, "18 of the room before 35");
+        lot = good_lot(way, SELKAVORN_LARGEST_LOT + 1);
+        check_lot(lot, SELKAVORN_ARGUMENT, "18 of the quantity before 35");
+        lot = good_lot(way, SELKAVORN_LARGEST_LOT);
+        lot.now = "20250103-13:00:30.001";
+        check_lot(lot, SELKAVORN_AGE_ABOVE, "24 before 35");
+    }
     end();
 }
 
@@ -992,6 +1270,7 @@ static void test_edges(void)
     uint64_t *quoted = (uint64_t *)(void *)make_edge() - SELKAVORN_QUOTE_NUMBERS;
     uint64_t *stated = (uint64_t *)(void *)make_edge() - SELKAVORN_STATE_NUMBERS;
     uint64_t *summed = (uint64_t *)(void *)make_edge() - SELKAVORN_BOARD_NUMBERS;
+    uint64_t *lots = (uint64_t *)(void *)make_edge() - SELKAVORN_LOT_NUMBERS;
     uint64_t *walked = (uint64_t *)(void *)make_edge() - SELKAVORN_SALVAGE_NUMBERS;
     uint8_t *written = make_edge() - 110;
     const uint8_t *now = lend_text(MOMENT, "20250103-13:00:00");
@@ -1008,6 +1287,9 @@ static void test_edges(void)
                 SELKAVORN_DONE, "a heartbeat");
     check_equal(selkavorn_quote(store, n, id, now, 17, 0, quoted, SELKAVORN_QUOTE_NUMBERS),
                 SELKAVORN_DONE, "quote");
+    for (enum way way = SELL; way < WAYS; way++)
+        check_equal(lot_calls[way](store, n, id, 1, now, 17, 0, lots, SELKAVORN_LOT_NUMBERS),
+                    SELKAVORN_DONE, "lot");
     check_equal(selkavorn_state(store, n, id, stated, SELKAVORN_STATE_NUMBERS), SELKAVORN_DONE,
                 "state");
     check_equal(selkavorn_board(store, n, summed, SELKAVORN_BOARD_NUMBERS), SELKAVORN_DONE,
@@ -1023,10 +1305,16 @@ static void test_reached(void)
     char name[32];
     begin("answer numbers reached");
     for (unsigned answer = 0; answer < 256; answer++) {
-        bool known = answer <= 14 || answer == 17 || answer == 18 || (answer >= 20 && answer <= 25);
+        bool of_lots = answer == 0 || answer == 17 || answer == 18 ||
+                       (answer >= 20 && answer <= 24) || answer == 35;
+        bool known = of_lots || answer <= 14 || answer == 25;
         snprintf(name, sizeof name, "answer %u", answer);
         if (known || reached[answer])
             check(known && reached[answer], name);
+        snprintf(name, sizeof name, "answer %u of lots", answer);
+        for (enum way way = SELL; way < WAYS; way++)
+            if (of_lots || lot_reached[way][answer])
+                check(of_lots && lot_reached[way][answer], name);
     }
     end();
 }
@@ -1041,6 +1329,12 @@ int main(void)
     test_store();
     test_quote_arguments();
     test_quote();
+    for (enum way way = SELL; way < WAYS; way++) {
+        test_lot_arguments(way);
+        test_lot_order(way);
+    }
+    test_lot();
+    test_lot_bounds();
     test_summary();
     test_writing_arguments();
     test_writing();

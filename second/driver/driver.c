@@ -15,7 +15,7 @@
 #include <string.h>
 #include <sys/mman.h>
 
-#include "selkavorn.h"
+#include "selkavorn_lots.h"
 
 enum {
     STORE_ROOM = 8192,  /* numbers that a script may lend at most */
@@ -346,6 +346,39 @@ static void run_quote(char **cursor)
     check_lent(now);
 }
 
+/* The shape that selling and buying share. */
+typedef uint64_t lot_call(const uint64_t *store, size_t store_n, uint64_t id, uint64_t quantity,
+                          const uint8_t *now, size_t now_n, uint64_t limit_s, uint64_t *out,
+                          size_t out_n);
+
+static void run_lot(char **cursor, const char *name, lot_call *lot)
+{
+    size_t store_n = next_length(cursor, STORE_ROOM);
+    uint64_t id = next_number(cursor);
+    uint64_t quantity = next_number(cursor);
+    struct lent now = next_bytes(cursor, 0);
+    uint64_t limit_s = next_number(cursor);
+    size_t room = next_length(cursor, NUMBER_ROOM);
+    guard_numbers();
+    uint64_t answer = lot(store, store_n, id, quantity, now.at, now.n, limit_s, numbers, room);
+    size_t written = answer == SELKAVORN_DONE ? SELKAVORN_LOT_NUMBERS : 0;
+    printf("%s %" PRIu64, name, answer);
+    print_numbers(written);
+    check_numbers(written);
+    check_store(0);
+    check_lent(now);
+}
+
+static void run_sell(char **cursor)
+{
+    run_lot(cursor, "sell", selkavorn_sell);
+}
+
+static void run_buy(char **cursor)
+{
+    run_lot(cursor, "buy", selkavorn_buy);
+}
+
 static void run_write(char **cursor)
 {
     size_t store_n = next_length(cursor, STORE_ROOM);
@@ -484,9 +517,9 @@ static void run_call(char *cursor)
         const char *name;
         void (*run)(char **);
     } calls[] = {{"open", run_open},   {"feed", run_feed},   {"quote", run_quote},
-                 {"write", run_write}, {"state", run_state}, {"board", run_board},
-                 {"salvage", run_salvage}, {"damage", run_damage}, {"wipe", run_wipe},
-                 {"dump", run_dump}};
+                 {"sell", run_sell},   {"buy", run_buy},     {"write", run_write},
+                 {"state", run_state}, {"board", run_board}, {"salvage", run_salvage},
+                 {"damage", run_damage}, {"wipe", run_wipe}, {"dump", run_dump}};
     const char *name = next_word(&cursor);
     for (size_t i = 0; i < sizeof calls / sizeof calls[0]; i++)
         if (strcmp(name, calls[i].name) == 0) {

@@ -1,4 +1,4 @@
-//! The answer numbers of document 01, one constant a row.
+//! The answer numbers of document 01, one constant a row, and the one that document 02, K11 adds.
 
 /// Counted in order, or a quote, writing or opening done.
 pub const DONE: u64 = 0;
@@ -46,3 +46,5 @@ pub const AGE_BELOW_0: u64 = 23;
 pub const AGE_ABOVE_LIMIT: u64 = 24;
 /// Output too short for the message.
 pub const OUTPUT_SHORT: u64 = 25;
+/// A sum of a lot that doesn't fit a signed 64-bit number.
+pub const SUM_OVER: u64 = 35;

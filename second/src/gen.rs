@@ -1,6 +1,6 @@
 //! The making of calls: a seed gives a script that leads a store through true streams, losses,
-//! bursts, snapshots of every kind, bounds of every field, harm, questions good and bad, and
-//! recordings to walk.
+//! bursts, snapshots of every kind, bounds of every field, harm, questions good and bad, books
+//! aimed at the bounds of a lot's sum, and recordings to walk.
 
 mod asks;
 mod bounds;
@@ -11,6 +11,7 @@ mod entries;
 mod exchange;
 mod faults;
 mod harm;
+mod lots;
 mod night;
 mod rng;
 mod scramble;
@@ -46,6 +47,8 @@ enum Step {
     Scramble,
     Long,
     Quote,
+    Lot,
+    AimedLots,
     Write,
     State,
     Board,
@@ -56,7 +59,7 @@ enum Step {
 }
 
 /// How often each step is taken under each theme; a theme holds for a while.
-const WEIGHTS: [(Step, [u64; 6]); 22] = [
+const WEIGHTS: [(Step, [u64; 6]); 24] = [
     // calm, losses, bursts, bounds, harm, questions
     (Step::Next, [300, 200, 120, 120, 120, 80]),
     (Step::Recover, [60, 120, 40, 60, 60, 40]),
@@ -73,12 +76,14 @@ const WEIGHTS: [(Step, [u64; 6]); 22] = [
     (Step::Scramble, [6, 6, 4, 60, 80, 6]),
     (Step::Long, [1, 1, 1, 6, 6, 1]),
     (Step::Quote, [60, 40, 30, 40, 30, 220]),
+    (Step::Lot, [44, 30, 22, 30, 22, 160]),
+    (Step::AimedLots, [8, 6, 6, 6, 5, 30]),
     (Step::Write, [40, 30, 30, 40, 30, 120]),
     (Step::State, [40, 50, 40, 30, 30, 70]),
     (Step::Board, [30, 40, 30, 20, 20, 60]),
     (Step::Salvage, [22, 22, 16, 24, 24, 26]),
     (Step::OddStore, [6, 6, 4, 6, 6, 24]),
-    (Step::Damage, [8, 8, 10, 8, 8, 10]),
+    (Step::Damage, [9, 9, 11, 9, 9, 12]),
     (Step::Reopen, [2, 2, 1, 3, 3, 5]),
 ];
 
@@ -134,7 +139,9 @@ pub fn sweep(seed: u64) -> Vec<Call> {
         }
     }
     let later = calls.split_off(end);
-    let is_ask = |call: &&Call| matches!(call.function(), Some("quote" | "write" | "state" | "board"));
+    let is_ask = |call: &&Call| {
+        matches!(call.function(), Some("quote" | "sell" | "buy" | "write" | "state" | "board"))
+    };
     let mut feeds = later.iter().filter(|call| matches!(call, Call::Feed { .. })).cycle();
     let mut asks = later.iter().filter(is_ask).cycle();
     for (i, change) in damage::just_outside(&store).into_iter().enumerate() {
@@ -179,6 +186,8 @@ impl Generator {
             Step::Scramble => self.scramble(),
             Step::Long => self.long(),
             Step::Quote => self.quote(),
+            Step::Lot => self.lot(),
+            Step::AimedLots => self.aimed_lots(),
             Step::Write => self.write(),
             Step::State => self.state(),
             Step::Board => self.board(),

@@ -1,4 +1,4 @@
-//! The six calls on a store, with the checks of their arguments (17, then 18) before all others.
+//! The eight calls on a store, with the checks of their arguments (17, then 18) before all others.
 
 use crate::answer::*;
 use crate::book::Depth;
@@ -7,6 +7,7 @@ use crate::channel::Channel;
 use crate::field::{self, LARGEST_ID};
 use crate::flip::{either, on, Flip};
 use crate::layout;
+use crate::lot::{self, Lot, LOT_NUMBERS};
 use crate::quote::{self, QUOTE_NUMBERS};
 use crate::writer::{self, Heading};
 
@@ -97,13 +98,22 @@ impl Keeper {
         room: u64,
     ) -> Result<[u64; QUOTE_NUMBERS], u64> {
         let channel = self.sound(store_n)?;
-        let now = Moment::read(now).ok_or(ARGUMENT)?;
-        let longest = either(Flip::LimitPastEnd, 86_400, 86_401);
-        let least = QUOTE_NUMBERS as u64 - either(Flip::QuoteRoom16, 0, 1);
-        if !is_security(id) || limit_s > longest || room < least {
+        let now = quote_arguments(id, now, limit_s)?;
+        if room < QUOTE_NUMBERS as u64 - either(Flip::QuoteRoom16, 0, 1) {
             return Err(ARGUMENT);
         }
         quote::quote(channel, id, now, limit_s)
+    }
+
+    /// What a lot brings or costs, 5 numbers; or a refusal: 17, 18, 20 to 24, 18 for the quantity, 35.
+    pub fn lot(&self, store_n: u64, lot: &Lot, room: u64) -> Result<[u64; LOT_NUMBERS], u64> {
+        let channel = self.sound(store_n)?;
+        let now = quote_arguments(lot.id, lot.now, lot.limit_s)?;
+        if room < LOT_NUMBERS as u64 - either(Flip::LotRoom4, 0, 1) {
+            let refused = quote::quote(channel, lot.id, now, lot.limit_s).err();
+            return Err(refused.filter(|_| on(Flip::LotRoomLast)).unwrap_or(ARGUMENT));
+        }
+        lot::lot(channel, lot, now)
     }
 
     /// A written snapshot, or a refusal: 17, 18, 20, 21, 25.
@@ -173,4 +183,11 @@ fn is_long(store_n: u64) -> bool {
 /// A SecurityID argument: at least 1, at most 18 digits.
 fn is_security(id: u64) -> bool {
     (1..=LARGEST_ID).contains(&id)
+}
+
+/// Now, where the arguments of a quote are in their ranges.
+fn quote_arguments(id: u64, now: &[u8], limit_s: u64) -> Result<Moment, u64> {
+    let longest = either(Flip::LimitPastEnd, 86_400, 86_401);
+    let good = is_security(id) && limit_s <= longest;
+    Moment::read(now).filter(|_| good).ok_or(ARGUMENT)
 }

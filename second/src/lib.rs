@@ -11,6 +11,7 @@ pub mod field;
 pub mod frame;
 pub mod instrument;
 pub mod keeper;
+pub mod lot;
 pub mod message;
 pub mod quote;
 pub mod salvage;

@@ -9,6 +9,7 @@
 //! | `O` | depth byte, 8 bytes for each SecurityID | opening |
 //! | `F` | the message | feed |
 //! | `Q` | SecurityID 8 bytes, limit 8 bytes, now | quote, in room of 17 numbers |
+//! | `L`, `P` | SecurityID 8 bytes, limit 8 bytes, quantity 8 bytes, now | lot sold, lot bought, in room of 5 numbers |
 //! | `S` | SecurityID 8 bytes | state, in room of 4 numbers |
 //! | `B` | none | summary of the board, in room of 5 numbers |
 //! | `W` | SecurityID 8 bytes, k, m, sender's and target's length (a byte each), sender, target, time | writing, in room of 4,267 bytes |
@@ -19,6 +20,7 @@
 //! each number that then differs from what it was before.
 
 use crate::keeper::{Keeper, BOARD_NUMBERS, STATE_NUMBERS, STORE_NUMBERS};
+use crate::lot::{Way, LOT_NUMBERS};
 use crate::quote::QUOTE_NUMBERS;
 use crate::replay::LONGEST_WRITING;
 use crate::run::run_plainly;
@@ -99,6 +101,16 @@ fn record(call: &Call, recording: &mut Vec<u8>) -> Option<()> {
         Call::Feed { store_n: STORE_NUMBERS, message } => put(b'F', message, recording),
         Call::Quote { store_n: STORE_NUMBERS, id, now, limit, room } if *room == QUOTE_NUMBERS as u64 => {
             put(b'Q', &[&id.to_le_bytes(), &limit.to_le_bytes(), &now[..]].concat(), recording)
+        }
+        Call::Lot { way, store_n: STORE_NUMBERS, id, quantity, now, limit, room }
+            if *room == LOT_NUMBERS as u64 =>
+        {
+            let kind = match way {
+                Way::Sell => b'L',
+                Way::Buy => b'P',
+            };
+            let numbers = [*id, *limit, *quantity].map(u64::to_le_bytes).concat();
+            put(kind, &[&numbers, &now[..]].concat(), recording)
         }
         Call::State { store_n: STORE_NUMBERS, id, room } if *room == STATE_NUMBERS as u64 => {
             put(b'S', &id.to_le_bytes(), recording)

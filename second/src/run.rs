@@ -5,6 +5,7 @@
 //! | `open ANSWER`, then the store's sum after a 0 | opening |
 //! | `feed ANSWER WAITING`, then the store's sum after a 0, 1, 3, 4 or 10 | feed |
 //! | `quote ANSWER`, then 17 numbers after a 0 | quote |
+//! | `sell ANSWER` or `buy ANSWER`, then 5 numbers after a 0 | lot |
 //! | `write ANSWER LENGTH`, then the bytes after a 0 | writing |
 //! | `state ANSWER`, then 4 numbers after a 0 | state |
 //! | `board ANSWER`, then 5 numbers after a 0 | summary of the board |
@@ -18,6 +19,7 @@
 use crate::answer::{DONE, GAP, LET_GO, REPLAY_BROKE, TAKEN};
 use crate::keeper::{Keeper, Writing};
 use crate::layout;
+use crate::lot::Lot;
 use crate::salvage::salvage;
 use crate::script::{bytes_text, Call};
 
@@ -69,6 +71,11 @@ pub fn run_plainly(keeper: &mut Keeper, call: &Call) -> (String, bool) {
         Call::Quote { store_n, id, now, limit, room } => {
             let outcome = keeper.quote(*store_n, *id, now, *limit, *room);
             numbers_line("quote", outcome.as_ref().map(|n| &n[..]).map_err(|a| *a))
+        }
+        Call::Lot { way, store_n, id, quantity, now, limit, room } => {
+            let lot = Lot { way: *way, id: *id, quantity: *quantity, now, limit_s: *limit };
+            let outcome = keeper.lot(*store_n, &lot, *room);
+            numbers_line(way.name(), outcome.as_ref().map(|n| &n[..]).map_err(|a| *a))
         }
         Call::Write { store_n, id, sender, target, k, m, time, room } => {
             let writing = Writing { id: *id, sender, target, k: *k, m: *m, time };

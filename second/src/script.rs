@@ -5,6 +5,7 @@
 //! | `open STORE_N DEPTH ID,ID,..` | opening |
 //! | `feed STORE_N MESSAGE` | feed |
 //! | `quote STORE_N ID NOW LIMIT ROOM` | quote |
+//! | `sell STORE_N ID QUANTITY NOW LIMIT ROOM`, or `buy` | lot down the bids, or up the offers |
 //! | `write STORE_N ID SENDER TARGET K M TIME ROOM` | writing |
 //! | `state STORE_N ID ROOM` | state |
 //! | `board STORE_N ROOM` | summary of the board |
@@ -21,6 +22,7 @@
 use std::fmt::Write as _;
 
 use crate::layout;
+use crate::lot::Way;
 
 #[derive(Clone, PartialEq, Eq, Debug)]
 pub enum Call {
@@ -36,6 +38,15 @@ pub enum Call {
     Quote {
         store_n: u64,
         id: u64,
+        now: Vec<u8>,
+        limit: u64,
+        room: u64,
+    },
+    Lot {
+        way: Way,
+        store_n: u64,
+        id: u64,
+        quantity: u64,
         now: Vec<u8>,
         limit: u64,
         room: u64,
@@ -142,6 +153,7 @@ impl Call {
             Call::Open { .. } => Some("open"),
             Call::Feed { .. } => Some("feed"),
             Call::Quote { .. } => Some("quote"),
+            Call::Lot { way, .. } => Some(way.name()),
             Call::Write { .. } => Some("write"),
             Call::State { .. } => Some("state"),
             Call::Board { .. } => Some("board"),
@@ -159,6 +171,9 @@ impl Call {
             Call::Feed { store_n, message } => format!("feed {store_n} {}", t(message)),
             Call::Quote { store_n, id, now, limit, room } => {
                 format!("quote {store_n} {id} {} {limit} {room}", t(now))
+            }
+            Call::Lot { way, store_n, id, quantity, now, limit, room } => {
+                format!("{} {store_n} {id} {quantity} {} {limit} {room}", way.name(), t(now))
             }
             Call::Write { store_n, id, sender, target, k, m, time, room } => {
                 let (sender, target, time) = (t(sender), t(target), t(time));
@@ -183,6 +198,8 @@ impl Call {
             "open" => Call::Open { store_n: words.number()?, depth: words.number()?, ids: words.ids()? },
             "feed" => Call::Feed { store_n: words.number()?, message: words.bytes()? },
             "quote" => words.quote()?,
+            "sell" => words.lot(Way::Sell)?,
+            "buy" => words.lot(Way::Buy)?,
             "write" => words.write()?,
             "state" => Call::State { store_n: words.number()?, id: words.number()?, room: words.number()? },
             "board" => Call::Board { store_n: words.number()?, room: words.number()? },
@@ -222,6 +239,18 @@ impl<'a> Words<'a> {
         Some(Call::Quote {
             store_n: self.number()?,
             id: self.number()?,
+            now: self.bytes()?,
+            limit: self.number()?,
+            room: self.number()?,
+        })
+    }
+
+    fn lot(&mut self, way: Way) -> Option<Call> {
+        Some(Call::Lot {
+            way,
+            store_n: self.number()?,
+            id: self.number()?,
+            quantity: self.number()?,
             now: self.bytes()?,
             limit: self.number()?,
             room: self.number()?,

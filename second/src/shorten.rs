@@ -1,8 +1,8 @@
 //! Shortens messages inside a script, with 9, 10 and 268 kept right where they were right, changes
-//! of a store, and recordings with the room that is lent for their walks.
+//! of a store, quantities of lots, and recordings with the room that is lent for their walks.
 
 use crate::gen::draft::{Draft, DraftField};
-use crate::salvage::pieces;
+use crate::salvage::{pieces, Piece, PIECE_NUMBERS};
 use crate::script::Call;
 use crate::shrink::{shrink_list, Shows};
 
@@ -85,6 +85,19 @@ pub fn shorten_changes(calls: &mut Vec<Call>, place: usize, shows: Shows<Call>) 
     *calls = with(&fewer);
 }
 
+/// Lowers the quantity of a lot by ever smaller steps.
+pub fn lower_quantity(calls: &mut Vec<Call>, place: usize, shows: Shows<Call>) {
+    for step in (0..u64::BITS).rev().map(|bit| 1 << bit) {
+        let mut shorter = calls.clone();
+        let Call::Lot { quantity, .. } = &mut shorter[place] else { return };
+        let Some(less) = quantity.checked_sub(step) else { continue };
+        *quantity = less;
+        if shows(&shorter) {
+            *calls = shorter;
+        }
+    }
+}
+
 /// Shortens the walk of one call: its recording, then its room.
 pub fn shorten_walk(calls: &mut Vec<Call>, place: usize, shows: Shows<Call>) {
     shorten_recording(calls, place, shows);
@@ -105,21 +118,29 @@ fn with_walk(calls: &[Call], place: usize, from: u64, room: u64, recording: &[u8
     others
 }
 
-/// Leaves out the bytes before a walk's start, then whole pieces, then single bytes.
+/// Leaves out the bytes before a walk's start, or before the piece in which it starts, then whole
+/// pieces with their room and without it, then single bytes.
 fn shorten_recording(calls: &mut Vec<Call>, place: usize, shows: Shows<Call>) {
     let Call::Salvage { mut from, room, mut recording } = calls[place].clone() else { return };
-    let before = (from as usize).min(recording.len());
-    if shows(&with_walk(calls, place, 0, room, &recording[before..])) {
-        recording.drain(..before);
-        from = 0;
+    let start = (from as usize).min(recording.len());
+    let of_piece = pieces(&recording, 0).iter().map(|piece| piece.start).rfind(|at| *at < start);
+    for before in [Some(start), of_piece].into_iter().flatten() {
+        let less = from - before as u64;
+        if shows(&with_walk(calls, place, less, room, &recording[before..])) {
+            recording.drain(..before);
+            from = less;
+            break;
+        }
     }
-    let with = |bytes: &[u8]| with_walk(calls, place, from, room, bytes);
-    let of_piece = |start: usize, end: usize| recording[start..end].to_vec();
-    let whole: Vec<Vec<u8>> =
-        pieces(&recording, 0).iter().map(|piece| of_piece(piece.start, piece.end())).collect();
-    let kept = shrink_list(&whole, &mut |pieces| shows(&with(&pieces.concat()))).concat();
-    let kept = shrink_list(&kept, &mut |bytes| shows(&with(bytes)));
-    *calls = with(&kept);
+    let of = |piece: &Piece| recording[piece.start..piece.end()].to_vec();
+    let whole: Vec<Vec<u8>> = pieces(&recording, 0).iter().map(of).collect();
+    let room_of = |kept: usize| room.saturating_sub(PIECE_NUMBERS * (whole.len() - kept) as u64);
+    let with = |bytes: &[u8], kept: usize| with_walk(calls, place, from, room_of(kept), bytes);
+    let kept = shrink_list(&whole, &mut |pieces| shows(&with(&pieces.concat(), pieces.len())));
+    let n = kept.len();
+    let kept = shrink_list(&kept, &mut |pieces| shows(&with(&pieces.concat(), n))).concat();
+    let kept = shrink_list(&kept, &mut |bytes| shows(&with(bytes, n)));
+    *calls = with(&kept, n);
 }
 
 /// The tag that begins an entry in this message.

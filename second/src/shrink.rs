@@ -1,8 +1,8 @@
 //! Shortens a script that shows something: calls are left out, then parts of messages and of
-//! recordings.
+//! recordings, and lots are made smaller.
 
 use crate::script::Call;
-use crate::shorten::{shorten_changes, shorten_message, shorten_walk, without_number};
+use crate::shorten::{lower_quantity, shorten_changes, shorten_message, shorten_walk, without_number};
 
 /// What a shortened list must still show.
 pub type Shows<'a, T> = &'a mut dyn FnMut(&[T]) -> bool;
@@ -15,6 +15,7 @@ pub fn shrink(calls: &[Call], shows: Shows<Call>) -> Vec<Call> {
     for place in 0..kept.len() {
         shorten_message(&mut kept, place, shows);
         shorten_changes(&mut kept, place, shows);
+        lower_quantity(&mut kept, place, shows);
         shorten_walk(&mut kept, place, shows);
     }
     leave_out_numbers(&mut kept, shows);

@@ -17,14 +17,30 @@ fn scripts_show_flips() {
     let calls = gen::script(5, 2_000);
     assert_eq!(calls, gen::script(5, 2_000));
     assert_eq!(read_script(&script_text(&calls)), Ok(calls.clone()));
-    let found: Vec<usize> = (1..=FLIPS.len()).filter(|number| shows(*number, &calls)).collect();
+    let right = run(&calls);
+    let differs = |number: &usize| compare::flipped(*number, &calls) != right;
+    let found: Vec<usize> = (1..=FLIPS.len()).filter(differs).collect();
     assert!(found.len() * 2 > FLIPS.len(), "only {found:?}");
     for number in [found[0], found[found.len() / 2], found[found.len() - 1]] {
         let shortest = shrink::shrink(&calls, &mut |calls| shows(number, calls));
         assert!(shows(number, &shortest));
         assert!(shortest.len() <= 40, "{}", script_text(&shortest));
     }
+    lots_are_shortened(&calls, &found);
     walks_are_shortened(calls);
+}
+
+/// The shortest script that shows a wrong lot gives an instrument a book and asks for one lot.
+fn lots_are_shortened(calls: &[Call], found: &[usize]) {
+    let of_lots = |number: &&usize| format!("{:?}", FLIPS[**number - 1].0).starts_with("Lot");
+    let found: Vec<&usize> = found.iter().filter(of_lots).collect();
+    assert!(found.len() >= 18, "only {found:?}");
+    for number in found {
+        let shortest = shrink::shrink(calls, &mut |calls| shows(*number, calls));
+        assert!(shows(*number, &shortest));
+        assert!(shortest.len() <= 6, "{}", script_text(&shortest));
+        assert!(matches!(shortest.last(), Some(Call::Lot { .. })), "{}", script_text(&shortest));
+    }
 }
 
 /// The shortest script that shows a wrong walk is one walk of a short recording.

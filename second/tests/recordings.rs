@@ -13,8 +13,15 @@ fn scripts() -> Vec<Vec<Call>> {
 }
 
 /// Flips of what the program never does: it lends 7,168 numbers and the room that a call needs.
-const UNSEEN: [Flip; 5] =
-    [Flip::QuoteRoom16, Flip::ShortBeforeWaiting, Flip::BoardRoom4, Flip::Store7167, Flip::ArgumentsFirst];
+const UNSEEN: [Flip; 7] = [
+    Flip::QuoteRoom16,
+    Flip::ShortBeforeWaiting,
+    Flip::BoardRoom4,
+    Flip::LotRoom4,
+    Flip::LotRoomLast,
+    Flip::Store7167,
+    Flip::ArgumentsFirst,
+];
 
 #[test]
 fn recordings_show_flips() {

@@ -16,7 +16,7 @@ const ODD_TURNS: [(u64, u64); 10] = [
 
 impl Generator {
     /// An instrument to ask about: mostly a Live one.
-    fn asked_id(&mut self) -> u64 {
+    pub(super) fn asked_id(&mut self) -> u64 {
         let live = self.marked(false);
         match self.rng.below(40) {
             0 => *self.rng.pick(&EDGE_IDS),
@@ -28,7 +28,7 @@ impl Generator {
     }
 
     /// A limit in seconds, now and then above 86,400.
-    fn some_limit(&mut self) -> u64 {
+    pub(super) fn some_limit(&mut self) -> u64 {
         match self.rng.below(12) {
             0 => 0,
             1 => 86_400,
@@ -39,7 +39,7 @@ impl Generator {
     }
 
     /// Now, aimed at the bounds of the age.
-    fn some_now(&mut self, limit: u64) -> Vec<u8> {
+    pub(super) fn some_now(&mut self, limit: u64) -> Vec<u8> {
         let heard = self.channel().and_then(|channel| channel.heard);
         let heard_ms = heard.map_or(self.exchange.clock_ms, |heard| clock::ms_of(&heard));
         let limit_ms = (limit.min(100_000) * 1000) as i64;

@@ -363,13 +363,14 @@ impl Generator {
     /// A call: mostly this message fed.
     fn some_call(&mut self, message: &[u8]) -> Call {
         let message = message.to_vec();
-        match self.rng.below(11) {
+        match self.rng.below(13) {
             0 => self.quote_call(),
-            1 => self.write_call(),
-            2 => self.state_call(),
-            3 => self.board_call(),
-            4 => Call::Open { store_n: NUMBERS as u64, depth: 0, ids: vec![self.rng.between(0, 9)] },
-            5 => Call::Feed { store_n: NUMBERS as u64, message: values::noise(&mut self.rng) },
+            1 | 2 => self.lot_call(),
+            3 => self.write_call(),
+            4 => self.state_call(),
+            5 => self.board_call(),
+            6 => Call::Open { store_n: NUMBERS as u64, depth: 0, ids: vec![self.rng.between(0, 9)] },
+            7 => Call::Feed { store_n: NUMBERS as u64, message: values::noise(&mut self.rng) },
             _ => Call::Feed { store_n: NUMBERS as u64, message },
         }
     }

@@ -192,6 +192,28 @@ impl Exchange {
         draft
     }
 
+    /// An X that empties an instrument's book and then builds this one, from place 1 on or from the
+    /// last place up.
+    pub fn next_book(&mut self, rng: &mut Rng, index: usize, book: TrueBook) -> Draft {
+        self.tick(rng);
+        let (id, upwards) = (self.ids[index], rng.chance(50));
+        let mut all = vec![Entry::Empty { id }];
+        for (side, rows) in book.sides.iter().enumerate() {
+            let new = |position, row: &Row| Entry::Side { id, side, action: 0, position, row: row.clone() };
+            if upwards {
+                all.extend(rows.iter().rev().map(|row| new(1, row)));
+            } else {
+                all.extend((1..).zip(rows).map(|(position, row)| new(position, row)));
+            }
+        }
+        let mut draft = self.headed(rng, "X");
+        entries::open_group(rng, &mut draft.fields, all.len());
+        draft.fields.extend(all.iter().flat_map(|entry| entry.fields(rng, self.depth)));
+        self.books[index] = Rc::new(book);
+        self.remember();
+        draft
+    }
+
     /// An instrument: mostly one of the followed ones.
     fn some_instrument(&self, rng: &mut Rng, who: Who) -> usize {
         let others = self.ids.len() - self.followed;
@@ -277,10 +299,9 @@ impl Exchange {
         Entry::Side { id: self.ids[index], side, action, position, row: Row::some(rng) }
     }
 
-    /// Fills both sides of a true book with the longest rows, as a later snapshot will tell.
-    pub fn fill_longest(&mut self, index: usize) {
-        let side = vec![Row::longest(); 20];
-        self.books[index] = Rc::new(TrueBook { sides: [side.clone(), side] });
+    /// Sets a true book, as a later snapshot will tell.
+    pub fn set_book(&mut self, index: usize, book: TrueBook) {
+        self.books[index] = Rc::new(book);
         if let Some((_, books)) = self.past.back_mut() {
             *books = self.books.clone();
         }

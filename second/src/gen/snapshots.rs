@@ -10,7 +10,7 @@ use crate::answer::REPLAY_BROKE;
 
 impl Generator {
     /// A W of an instrument with this 369 and this book.
-    fn snapshot_draft(&mut self, index: usize, last: u64, book: &TrueBook) -> Draft {
+    pub(super) fn snapshot_draft(&mut self, index: usize, last: u64, book: &TrueBook) -> Draft {
         let reports = 1 + self.rng.below(16) as u64;
         let number = if self.rng.chance(5) { LAST_NUMBER } else { 1 + self.rng.below(20) as u64 };
         let later = self.rng.below(5000) as i64;
@@ -122,7 +122,8 @@ impl Generator {
 
     /// The book that takes the most bytes to write.
     fn longest_book(&mut self, index: usize) -> Rc<TrueBook> {
-        self.exchange.fill_longest(index);
+        let side = vec![Row::longest(); 20];
+        self.exchange.set_book(index, TrueBook { sides: [side.clone(), side] });
         self.exchange.book_at(index, LAST_NUMBER)
     }
 

@@ -77,12 +77,15 @@ impl Generator {
         if self.rng.chance(40) {
             self.recover_all();
             self.quote();
+            self.lot();
+            self.lot();
             self.write();
             self.state();
             self.board();
             self.next();
             self.quote();
             self.quote();
+            self.lot();
         }
     }
 
@@ -135,11 +138,12 @@ impl Generator {
         let lent = *self.rng.pick(&LENGTHS);
         let from = self.calls.len();
         let keeper = self.guide.clone();
-        match self.rng.below(5) {
+        match self.rng.below(7) {
             0 => self.quote(),
-            1 => self.write(),
-            2 => self.state(),
-            3 => self.board(),
+            1 | 2 => self.lot(),
+            3 => self.write(),
+            4 => self.state(),
+            5 => self.board(),
             _ => self.late_or_next(),
         }
         self.guide = keeper;
@@ -162,6 +166,7 @@ impl Generator {
 fn spoil(mut call: Call) -> Call {
     match &mut call {
         Call::Quote { limit, .. } => *limit = 86_401,
+        Call::Lot { quantity, .. } => *quantity = 0,
         Call::Write { k, .. } => *k = 17,
         Call::State { id, .. } => *id = 0,
         Call::Board { room, .. } => *room = 4,
@@ -176,6 +181,9 @@ fn lend(call: Call, lent: u64) -> Call {
         Call::Open { depth, ids, .. } => Call::Open { store_n: lent, depth, ids },
         Call::Feed { message, .. } => Call::Feed { store_n: lent, message },
         Call::Quote { id, now, limit, room, .. } => Call::Quote { store_n: lent, id, now, limit, room },
+        Call::Lot { way, id, quantity, now, limit, room, .. } => {
+            Call::Lot { way, store_n: lent, id, quantity, now, limit, room }
+        }
         Call::Write { id, sender, target, k, m, time, room, .. } => {
             Call::Write { store_n: lent, id, sender, target, k, m, time, room }
         }

@@ -35,6 +35,17 @@ pub fn price(rng: &mut Rng) -> String {
     }
 }
 
+/// A price of so many ten-millionths, in one of the ways to write it.
+pub fn price_of(rng: &mut Rng, price: i64) -> String {
+    let (units, parts) = (price.unsigned_abs() / 10_000_000, price.unsigned_abs() % 10_000_000);
+    let minus = if price < 0 { "-" } else { "" };
+    let whole = format!("{minus}{units}.{parts:07}");
+    if rng.chance(20) {
+        return whole;
+    }
+    String::from(whole.trim_end_matches('0').trim_end_matches('.'))
+}
+
 /// A good size (271).
 pub fn size(rng: &mut Rng) -> String {
     match rng.below(8) {
