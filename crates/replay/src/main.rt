@@ -1,5 +1,5 @@
-// Replays recordings of calls on the seven exported functions, and writes a line for each call: its answer, and after a 0 the
-// quote, the state, the summary, the snapshot or the walk. The recordings are the files that the arguments name. The lines that must come out are
+// Replays recordings of calls on the nine exported functions, and writes a line for each call: its answer, and after a 0 the
+// quote, the state, the summary, the snapshot, the walk or the lot. The recordings are the files that the arguments name. The lines that must come out are
 // written by the second implementation from the same recordings, so a run holds the proved code to an independent one.
 //
 // A recording is a chain of records: a byte that says the kind, two bytes of length (low byte first), and that many bytes.
@@ -12,6 +12,9 @@
 //   W  SecurityID 8 bytes, k, m, sender's and target's length,
 //      a byte each, then sender, target, time                   writing, in room of 4,267 bytes
 //   R  from 8 bytes, numbers of the room a byte, then the bytes  walk of a recording, in room of so many numbers
+//   L  SecurityID 8 bytes, limit 8 bytes, quantity 8 bytes,
+//      then now                                                 lot sold, in room of 5 numbers
+//   P  the same                                                 lot bought, likewise
 //   D  index 2 bytes, value 8 bytes                             the store's number at the index is set; no line
 //
 // Numbers stand low byte first; a byte that is missing reads as 0. A record that is cut off ends its recording, and so does one
@@ -107,6 +110,36 @@ fn walk_call(body: &[u8]) {
     lines::told(b"salvage", answer, room);
 }
 
+// Has a lot sold.
+fn sell_call(store: &[u64], body: &[u8]) {
+    let mut room = [0u64; 5];
+    let time = record::part(body, 24, body.len());
+    let answer = selkavorn::selkavorn_sell(
+        store,
+        record::number(body, 0),
+        record::number(body, 16),
+        time,
+        record::number(body, 8),
+        &mut room,
+    );
+    lines::told(b"sell", answer, &room);
+}
+
+// Has a lot bought.
+fn buy_call(store: &[u64], body: &[u8]) {
+    let mut room = [0u64; 5];
+    let time = record::part(body, 24, body.len());
+    let answer = selkavorn::selkavorn_buy(
+        store,
+        record::number(body, 0),
+        record::number(body, 16),
+        time,
+        record::number(body, 8),
+        &mut room,
+    );
+    lines::told(b"buy", answer, &room);
+}
+
 // Sets a number of the store.
 fn set_number(store: &mut [u64], body: &[u8]) {
     let at = record::length(body, 0) + 256 * record::length(body, 1);
@@ -115,7 +148,7 @@ fn set_number(store: &mut [u64], body: &[u8]) {
     }
 }
 
-// Does what a record says, and answers whether its kind is one of the eight.
+// Does what a record says, and answers whether its kind is one of the ten.
 fn call(store: &mut [u64], kind: u8, body: &[u8]) -> bool {
     match kind {
         b'O' => open_call(store, body),
@@ -125,6 +158,8 @@ fn call(store: &mut [u64], kind: u8, body: &[u8]) -> bool {
         b'B' => board_call(store),
         b'W' => write_call(store, body),
         b'R' => walk_call(body),
+        b'L' => sell_call(store, body),
+        b'P' => buy_call(store, body),
         b'D' => set_number(store, body),
         _ => return false,
     }
