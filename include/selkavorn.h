@@ -1,7 +1,7 @@
 /* Selkavorn 1.2: keeps the order books of one exchange channel and gives dated quotes.
  *
- * This is the header of the books. The functions are proved, and stand in libselkavorn.a (x86-64
- * Linux). selkavorn_lots.h, in the same archive, has what a quantity brings down a book.
+ * This is the header of the books. Its functions are proved, and stand in libselkavorn.a (x86-64
+ * Linux), as do those of selkavorn_lots.h, which say what a quantity brings down a book.
  * What follows is enough to use them; docs/RULES.md has every rule to the last byte, in sections
  * whose names are given here in quotes.
  *
@@ -89,6 +89,7 @@
  *   Every call answers a number of enum selkavorn_answer; selkavorn_feed and selkavorn_write put a
  *   second number above it (SELKAVORN_ANSWER, SELKAVORN_WAITING_COUNT, SELKAVORN_LENGTH).
  *   Checks run in this order: 17, 18, 11 to 14, then the rest in the order of the enum.
+ *   selkavorn_lots.h has one more 18, of its own place in that order.
  *   Only selkavorn_open with 0 and selkavorn_feed with 0, 1, 3, 4 and 10 change the store. Any
  *   other answer is a refusal: store and output are left as they were, to the last number and byte.
  *

@@ -2,8 +2,9 @@
  *
  * A library above the books of selkavorn.h, in the same archive, libselkavorn.a. Its two calls take
  * a store that selkavorn_open opened and selkavorn_feed fed, and only read it. What selkavorn.h
- * says of stores, runs, SecurityIDs, moments, ages, duties and answers holds here too.
- * docs/RULES.md has the rules to the last unit, in its section "Lots".
+ * says of stores, runs, SecurityIDs, moments, ages, duties and answers holds here too, but that the
+ * 18 of a quantity stands behind 24. docs/RULES.md has the rules to the last unit, in its section
+ * "Lots".
  *
  * Words
  *   lot        a quantity of one instrument, in the units of tag 271.
@@ -14,8 +15,9 @@
  *   left       the units that no place took. It is above 0 only where the whole side was taken.
  *
  * A lot rests on a quote and is dated as that quote is: by H and the heard moment. Where
- * selkavorn_quote refuses the same id, now and limit, the lot is refused by the same number. It
- * says what the book as of message H would bring. It does not trade, and it knows no fees.
+ * selkavorn_quote refuses the same id, now and limit, each in room that is long enough, the lot is
+ * refused by the same number. It says what the book as of message H would bring. It does not trade,
+ * and it knows no fees.
  */
 #ifndef SELKAVORN_LOTS_H
 #define SELKAVORN_LOTS_H

@@ -19,7 +19,7 @@ use Rattle.sound.specs.Sound.{sound}
 use Rattle.quote.specs.declared.Top.{Top}
 use Rattle.quote.specs.declared.Quote.{Quote}
 use Rattle.quote.specs.declared.Quoted.{Quoted}
-use Rattle.quote.specs.Quotes.{quoteOf}
+use Rattle.quote.specs.Quotes.{quoteOf, ifQuoted}
 pub use Rattle.quote.specs.Quotes.{quoteNumber}
 
 -- With 0 the values stand at the start of the room; a refusal writes nothing there.
@@ -59,16 +59,9 @@ topWords depth Top.Empty = zeros 7
 abbrev pub quoteWords : ℕ → Quote → List ℕ
 quoteWords depth q = q .number ∷ momentWords (q .heard) ++ (topWords depth (q .bid) ++ topWords depth (q .offer))
 
--- Beside the number of each case of a quote (`quoteNumber`), its values: a refused quote carries zeros.
+-- Beside the number of each case (`quoteNumber`), its values: a refused quote carries zeros.
 abbrev pub quoteValues : ℕ → Quoted → List ℕ
-quoteValues depth (Quoted.Is q) = quoteWords depth q
-quoteValues depth Quoted.Unsound = zeros quoteSize
-quoteValues depth Quoted.BadArgument = zeros quoteSize
-quoteValues depth Quoted.NotFollowed = zeros quoteSize
-quoteValues depth Quoted.Waiting = zeros quoteSize
-quoteValues depth Quoted.NothingHeard = zeros quoteSize
-quoteValues depth Quoted.BeforeHeard = zeros quoteSize
-quoteValues depth Quoted.TooOld = zeros quoteSize
+quoteValues depth q = ifQuoted (quoteWords depth) (zeros quoteSize) q
 
 -- 17 for an unsound store, then 18 for room too short or an argument outside its range, then 20 to 24 of the board.
 unfoldable pub quoteAnswer : ℕ → List ℕ → ℕ → List ℕ → List ℕ → ℕ

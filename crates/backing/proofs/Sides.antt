@@ -8,10 +8,9 @@ use lib.Dec.{leb}
 use lib.ListN.{length}
 use borrow.Author.Tests.{leb-false}
 use denote.Enum.Declared.{tagOf}
-use types.Run.{OneOf, miss}
+use types.Run.{OneOf}
 use Rattle.digits.specs.declared.Number.{Number}
 use Rattle.moment.specs.Moments.{momentOf}
-use Rattle.book.specs.declared.Entry.{Entry}
 use Rattle.book.specs.declared.Side.{Side}
 use Rattle.book.specs.Sides.{noSide}
 use Rattle.book.specs.Canonical.{Kept, heldIn}
@@ -28,8 +27,8 @@ use Rattle.quote.specs.Quotes.{mostLimit, quoteAt, atNow, quoteOf}
 use Rattle.quote.specs.declared.Quote.{Quote}
 use Rattle.quote.specs.declared.Quoted.{Quoted}
 use Rattle.quote.proofs.Quoted.{the-type}
-use Rattle.quote.proofs.Refused.{refusals}
-use Rattle.backing.specs.Backing.{quotedOf, sideFor, ifGiven, behind, Backs}
+use Rattle.quote.proofs.Refused.{refusals, refused-is}
+use Rattle.backing.specs.Backing.{quotedOf, sideFor, behind, Backs}
 
 -- ---- a quote that is given is of an instrument that is followed
 never : {r : Quoted} {q : Quote} → r ≡ Quoted.Is q → r ≡ Quoted.NotFollowed → ⊥
@@ -58,15 +57,6 @@ followed id now limit b q e = by-moment (momentOf now) e
     by-moment (Number.Is m) w = by-test m (idFine id && leb limit mostLimit) w
 
 -- ---- refused
-none-given : (q : Quoted) (l : List Entry) → OneOf refusals (tagOf the-type q) → [] ≡ ifGiven q l
-none-given (Quoted.Is q) l h = absurd (miss refusals 0 tt h)
-none-given Quoted.Unsound l h = refl
-none-given Quoted.BadArgument l h = refl
-none-given Quoted.NotFollowed l h = refl
-none-given Quoted.Waiting l h = refl
-none-given Quoted.NothingHeard l h = refl
-none-given Quoted.BeforeHeard l h = refl
-none-given Quoted.TooOld l h = refl
 
 -- a side that holds nothing
 no-side-kept : Kept noSide
@@ -88,7 +78,7 @@ module _ (buying : Bool) (id : ℕ) (now : List ℕ) (limit : ℕ) (xs : List �
     refused q e h =
         record {
           quoted = is-quote q e;
-          places = rw (sym (is-quote q e)) (none-given q (sideFor buying (at (look id (boardAt xs .insts)) (boardAt xs) .book)) h);
+          places = rw (sym (is-quote q e)) (sym (refused-is (λ p. sideFor buying (at (look id (boardAt xs .insts)) (boardAt xs) .book)) [] q h));
           kept = no-side-kept;
         }
 

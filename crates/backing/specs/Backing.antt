@@ -10,7 +10,7 @@ use Rattle.board.specs.Calls.{inst}
 use Rattle.store.specs.Meaning.{boardAt}
 use Rattle.sound.specs.Sound.{sound}
 use Rattle.quote.specs.declared.Quoted.{Quoted}
-use Rattle.quote.specs.Quotes.{quoteOf}
+use Rattle.quote.specs.Quotes.{quoteOf, ifQuoted}
 use Rattle.backing.specs.declared.Backed.{Backed}
 
 -- 17 comes first, then what the board answers.
@@ -21,20 +21,9 @@ quotedOf id now limit xs = cond (sound xs) (quoteOf id now limit (boardAt xs)) Q
 abbrev pub sideFor : Bool → Lists → List Entry
 sideFor buying b = cond buying (b .offers) (b .bids)
 
--- Nothing stands behind a quote that is not given.
-abbrev pub ifGiven : Quoted → List Entry → List Entry
-ifGiven (Quoted.Is q) l = l
-ifGiven Quoted.Unsound l = []
-ifGiven Quoted.BadArgument l = []
-ifGiven Quoted.NotFollowed l = []
-ifGiven Quoted.Waiting l = []
-ifGiven Quoted.NothingHeard l = []
-ifGiven Quoted.BeforeHeard l = []
-ifGiven Quoted.TooOld l = []
-
--- The places behind a quote, place 1 first: a whole side of the instrument's book.
+-- The places behind a quote, place 1 first: a whole side of the instrument's book. Nothing stands behind a quote that is not given.
 unfoldable pub behind : Bool → ℕ → List ℕ → ℕ → List ℕ → List Entry
-behind buying id now limit xs = ifGiven (quotedOf id now limit xs) (sideFor buying (inst id (boardAt xs) .book))
+behind buying id now limit xs = ifQuoted (λ q. sideFor buying (inst id (boardAt xs) .book)) [] (quotedOf id now limit xs)
 
 -- What a quote and its side are: the side's unused places are zero, so its places say all of it.
 pub record Backs (buying : Bool) (id : ℕ) (now : List ℕ) (limit : ℕ) (xs : List ℕ) (r : Backed) : Type 0 where

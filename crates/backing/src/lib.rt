@@ -11,7 +11,7 @@ ghost use Rattle.store.specs.Layout.{storeSize, bidsOf, offersOf};
 ghost use Rattle.sound.specs.Sound.{sound};
 ghost use Rattle.backing.specs.Backing.{Backs};
 
-// A quote, or why there is none, and the side that stands behind it: that of no place where none is given.
+// A quote, or why there is none, and the side behind it; where no quote is given, a side that holds nothing.
 pub struct Backed {
     pub quoted: Quoted,
     pub side: Side,

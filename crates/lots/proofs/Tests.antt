@@ -14,7 +14,7 @@ use Rattle.book.specs.declared.Entry.{Entry}
 use Rattle.book.specs.Canonical.{heldIn}
 use Rattle.quote.specs.declared.Quoted.{Quoted}
 use Rattle.quote.proofs.Quoted.{the-type}
-use Rattle.quote.proofs.Refused.{refusals}
+use Rattle.quote.proofs.Refused.{refusals, refused-is}
 use Rattle.ask.specs.Ask.{roomAfter, bitsOf, momentWords}
 use Rattle.backing.specs.Backing.{quotedOf, behind, Backs}
 use Rattle.backing.specs.declared.Backed.{Backed}
@@ -31,14 +31,7 @@ use Rattle.lots.proofs.Lotted.{the-type as lot-type}
 
 -- what refuses the quote refuses the lot
 pub passes : (r : Quoted) (n : ℕ) (es : List Entry) → OneOf refusals (tagOf the-type r) → Lotted.Not r ≡ onQuote r n es
-passes (Quoted.Is q) n es h = absurd (miss refusals 0 tt h)
-passes Quoted.Unsound n es h = refl
-passes Quoted.BadArgument n es h = refl
-passes Quoted.NotFollowed n es h = refl
-passes Quoted.Waiting n es h = refl
-passes Quoted.NothingHeard n es h = refl
-passes Quoted.BeforeHeard n es h = refl
-passes Quoted.TooOld n es h = refl
+passes r n es h = sym (refused-is (λ q. cond (unitsFine n) (dated q (lotOf n es)) Lotted.BadQuantity) (Lotted.Not r) r h)
 
 -- the quantity
 pub bad-units : (n : ℕ) → ltb n 1 || ltb mostUnits n ≡ true → unitsFine n ≡ false
@@ -56,7 +49,7 @@ good-units n h = go (ltb n 1) refl h
     go false q w = rw (le-leb 1 n (ltb-false n 1 q), le-leb n mostUnits (ltb-false mostUnits n w))
 
 -- the lot of a quote that is given, by its quantity
-pub no-units : (q : Quote) (n : ℕ) (es : List Entry) (r : Quoted) → r ≡ Quoted.Is q → unitsFine n ≡ false → Lotted.Not Quoted.BadArgument ≡ onQuote r n es
+pub no-units : (q : Quote) (n : ℕ) (es : List Entry) (r : Quoted) → r ≡ Quoted.Is q → unitsFine n ≡ false → Lotted.BadQuantity ≡ onQuote r n es
 no-units q n es r e t = rw (e, t)
 
 pub brought : (q : Quote) (n : ℕ) (es : List Entry) (r : Quoted) → r ≡ Quoted.Is q → unitsFine n ≡ true → dated q (lotOf n es) ≡ onQuote r n es
@@ -64,14 +57,14 @@ brought q n es r e t = rw (e, t)
 
 -- the room
 module _ (room answer : ℕ) where
-  pub enough : lotSize ≤ room → answer ≡ inRoom room answer
-  enough h = rw (le-leb lotSize room h)
+  pub first : (n : ℕ) → n ≡ 17 → answer ≡ n → answer ≡ inRoom room answer
+  first n e w = rw (w, e)
 
-  pub first : (n : ℕ) → room < lotSize → n ≡ 17 → answer ≡ n → n ≡ inRoom room answer
-  first n h e w = rw (lt-leb lotSize room h, w, e)
+  pub then : (n m : ℕ) → n ≡ 17 → (answer ≡ n → ⊥) → room < lotSize → m ≡ 18 → m ≡ inRoom room answer
+  then n m e w h k = rw (ne-eqb answer 17 (λ z. w (z ∙ sym e)), lt-leb lotSize room h, k)
 
-  pub then : (n m : ℕ) → room < lotSize → n ≡ 17 → (answer ≡ n → ⊥) → m ≡ 18 → m ≡ inRoom room answer
-  then n m h e w k = rw (lt-leb lotSize room h, ne-eqb answer 17 (λ z. w (z ∙ sym e)), k)
+  pub last : (n : ℕ) → n ≡ 17 → (answer ≡ n → ⊥) → lotSize ≤ room → answer ≡ inRoom room answer
+  last n e w h = rw (ne-eqb answer 17 (λ z. w (z ∙ sym e)), le-leb lotSize room h)
 
 -- 0 is answered only in room that is long enough
 pub room-for : (room : ℕ) → inRoom room 0 ≡ 0 → lotSize ≤ room
@@ -88,14 +81,14 @@ pub sold-is : (l : List ℕ) (s : Sold) → set (set (sets (set l 0 (s .number))
 sold-is l s = refl
 
 -- a refusal writes nothing
-pub nothing : (l : Lotted) (answer : ℕ) (room : List ℕ) → OneOf (1 ∷ 2 ∷ []) (tagOf lot-type l) → room ≡ roomAfter answer (lotWords l) room
-nothing (Lotted.Is s) answer room h = absurd (miss (1 ∷ 2 ∷ []) 0 tt h)
-nothing (Lotted.Not q) answer room h = go (eqb answer 0)
-  where
-    go : (t : Bool) → room ≡ cond t (sets room 0 []) room
-    go true = refl
-    go false = refl
-nothing Lotted.Over answer room h = go (eqb answer 0)
+no-words : (l : Lotted) → OneOf (1 ∷ 2 ∷ 3 ∷ []) (tagOf lot-type l) → lotWords l ≡ []
+no-words (Lotted.Is s) h = absurd (miss (1 ∷ 2 ∷ 3 ∷ []) 0 tt h)
+no-words (Lotted.Not q) h = refl
+no-words Lotted.BadQuantity h = refl
+no-words Lotted.Over h = refl
+
+pub nothing : (l : Lotted) (answer : ℕ) (room : List ℕ) → OneOf (1 ∷ 2 ∷ 3 ∷ []) (tagOf lot-type l) → room ≡ roomAfter answer (lotWords l) room
+nothing l answer room h = rw (no-words l h) (go (eqb answer 0))
   where
     go : (t : Bool) → room ≡ cond t (sets room 0 []) room
     go true = refl
@@ -112,7 +105,7 @@ dated-fine q Lot.Over f = tt
 on-fine : (r : Quoted) (n : ℕ) (es : List Entry) → FineQuoted r → FineLot (onQuote r n es)
 on-fine (Quoted.Is q) n es f = go (unitsFine n)
   where
-    go : (t : Bool) → FineLot (cond t (dated q (lotOf n es)) (Lotted.Not Quoted.BadArgument))
+    go : (t : Bool) → FineLot (cond t (dated q (lotOf n es)) Lotted.BadQuantity)
     go true = dated-fine q (lotOf n es) f
     go false = tt
 on-fine Quoted.Unsound n es f = tt

@@ -8,7 +8,7 @@ use Rattle.proceeds.specs.declared.Lot.{Lot}
 use Rattle.proceeds.specs.Lots.{lotOf}
 use Rattle.quote.specs.declared.Quote.{Quote}
 use Rattle.quote.specs.declared.Quoted.{Quoted}
-use Rattle.quote.specs.Quotes.{quoteNumber}
+use Rattle.quote.specs.Quotes.{ifQuoted, quoteNumber}
 use Rattle.backing.specs.Backing.{quotedOf, behind}
 use Rattle.lots.specs.declared.Lotted.{Lotted}
 
@@ -24,23 +24,17 @@ abbrev pub dated : Quote → Lot → Lotted
 dated q (Lot.Is s) = Lotted.Is (record { sum = s .sum; left = s .left; number = q .number; heard = q .heard })
 dated q Lot.Over = Lotted.Over
 
--- Quote refusals pass through unchanged and first, then a quantity out of range is 18.
+-- Quote refusals pass through unchanged and first, then a quantity out of range is refused.
 abbrev pub onQuote : Quoted → ℕ → List Entry → Lotted
-onQuote (Quoted.Is q) n es = cond (unitsFine n) (dated q (lotOf n es)) (Lotted.Not Quoted.BadArgument)
-onQuote Quoted.Unsound n es = Lotted.Not Quoted.Unsound
-onQuote Quoted.BadArgument n es = Lotted.Not Quoted.BadArgument
-onQuote Quoted.NotFollowed n es = Lotted.Not Quoted.NotFollowed
-onQuote Quoted.Waiting n es = Lotted.Not Quoted.Waiting
-onQuote Quoted.NothingHeard n es = Lotted.Not Quoted.NothingHeard
-onQuote Quoted.BeforeHeard n es = Lotted.Not Quoted.BeforeHeard
-onQuote Quoted.TooOld n es = Lotted.Not Quoted.TooOld
+onQuote r n es = ifQuoted (λ q. cond (unitsFine n) (dated q (lotOf n es)) Lotted.BadQuantity) (Lotted.Not r) r
 
 -- A lot of n units of the instrument with this SecurityID, on the store xs.
 unfoldable pub lottedOf : Bool → ℕ → ℕ → List ℕ → ℕ → List ℕ → Lotted
 lottedOf buying id n now limit xs = onQuote (quotedOf id now limit xs) n (behind buying id now limit xs)
 
--- The number of each case: the quote's, and 35 where a sum does not fit.
+-- The answer number of each case: the quote's, 18 for the quantity, 35 where a sum does not fit.
 abbrev pub lotNumber : Lotted → ℕ
 lotNumber (Lotted.Is s) = 0
 lotNumber (Lotted.Not q) = quoteNumber q
+lotNumber Lotted.BadQuantity = 18
 lotNumber Lotted.Over = 35

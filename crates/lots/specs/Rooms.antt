@@ -23,11 +23,12 @@ soldWords s = s .number ∷ momentWords (s .heard) ++ (bitsOf (s .sum) ∷ s .le
 abbrev pub lotWords : Lotted → List ℕ
 lotWords (Lotted.Is s) = soldWords s
 lotWords (Lotted.Not q) = []
+lotWords Lotted.BadQuantity = []
 lotWords Lotted.Over = []
 
--- Room for fewer is 18, as are the quote's arguments: behind 17 alone.
+-- 17 comes first; then room for fewer is 18, as are the quote's arguments; then the rest.
 abbrev pub inRoom : ℕ → ℕ → ℕ
-inRoom room answer = cond (leb lotSize room) answer (cond (eqb answer 17) 17 18)
+inRoom room answer = cond (eqb answer 17) answer (cond (leb lotSize room) answer 18)
 
 unfoldable pub lotAnswer : Bool → ℕ → ℕ → List ℕ → ℕ → List ℕ → List ℕ → ℕ
 lotAnswer buying id n now limit room xs = inRoom (length room) (lotNumber (lottedOf buying id n now limit xs))
@@ -45,4 +46,5 @@ pub record Dealt (buying : Bool) (id n : ℕ) (now : List ℕ) (limit : ℕ) (ro
 abbrev pub FineLot : Lotted → Type 0
 FineLot (Lotted.Is s) = s .heard < moments
 FineLot (Lotted.Not q) = Unit {0}
+FineLot Lotted.BadQuantity = Unit {0}
 FineLot Lotted.Over = Unit {0}

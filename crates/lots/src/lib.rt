@@ -24,10 +24,11 @@ pub struct Sold {
     pub heard: u64,
 }
 
-// What a lot of an instrument brings, or why it is refused: as the quote is, or a sum does not fit.
+// What a lot of an instrument brings, or why it is refused: as its quote is, its quantity is out of range, or a sum does not fit.
 pub enum Lotted {
     Is(Sold),
     Not(Quoted),
+    BadQuantity,
     Over,
 }
 
@@ -69,36 +70,36 @@ fn lot_on(b: Backed, quantity: u64) -> Lotted
         return Lotted::Not(quoted);
     };
     if (quantity < 1) | (MOST_UNITS < quantity) {
-        return Lotted::Not(Quoted::BadArgument);
+        return Lotted::BadQuantity;
     }
     let side = b.side;
     let l = proceeds::of_side(side, quantity);
     date(l, q)
 }
 
-// The number of a lot.
+// The answer number of a lot.
 fn number(l: Lotted) -> u64
     ensures { λ r. ⌜ r ≡ lotNumber l ⌝ }
 {
     match l {
         Lotted::Is(_) => return DONE,
         Lotted::Not(q) => return quote::number(q),
+        Lotted::BadQuantity => return quote::number(Quoted::BadArgument),
         Lotted::Over => return OVER,
     }
 }
 
-// The answer in room for so many numbers: room too short is 18, behind 17 alone.
+// The answer in room for so many numbers: 17 first, then room that is too short is 18, then the rest.
 fn in_room(room: usize, answer: u64) -> u64
     ensures { λ r. ⌜ r ≡ inRoom room answer ⌝ }
 {
-    if LOT <= room {
+    if answer == quote::number(Quoted::Unsound) {
         return answer;
     }
-    let unsound = quote::number(Quoted::Unsound);
-    if answer == unsound {
-        return unsound;
+    if room < LOT {
+        return quote::number(Quoted::BadArgument);
     }
-    quote::number(Quoted::BadArgument)
+    answer
 }
 
 // A lot's five numbers.

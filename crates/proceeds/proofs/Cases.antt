@@ -8,7 +8,7 @@ pub lot-cases : LotCases
 unfolding fits unitsOf leftOf valueOf allFit lotOf
 lot-cases =
     record {
-      two = refl;
+      cut = refl;
       short = refl;
       none = refl;
       product = refl;

@@ -4,6 +4,7 @@ use mathlib.Core.List.{[], _∷_}
 use Prim.Native.Nat.{ℕ}
 use lib.IntN.{ℤ, pos, negsuc}
 use Rattle.book.specs.declared.Entry.{Entry}
+use Rattle.book.specs.Cases.{fourBids}
 use Rattle.proceeds.specs.declared.Lot.{Lot}
 use Rattle.proceeds.specs.Lots.{lotOf}
 
@@ -14,13 +15,13 @@ abbrev pub brings : ℤ → ℕ → Lot
 brings sum left = Lot.Is (record { sum = sum; left = left })
 
 pub record LotCases : Type 0 where
-  -- all of place 1 and a part of place 2: the bids drawn in source document 000, section 9, at 10.58, 10.57 and 10.54
-  pub two : lotOf 6000 (of 5000 (pos 105800000) ∷ of 4000 (pos 105700000) ∷ of 3000 (pos 105400000) ∷ []) ≡ brings (pos 634700000000) 0
+  -- two places and a part of the third: the bids that source document 000 draws in section 9.1, at 10.58, 10.58, 10.57 and 10.54
+  pub cut : lotOf 10000 fourBids ≡ brings (pos 1057900000000) 0
   -- a side that is used up, the second price below 0; and an empty one
   pub short : lotOf 10 (of 4 (pos 7) ∷ of 5 (negsuc 1) ∷ []) ≡ brings (pos 18) 1
   pub none : lotOf 10 [] ≡ brings (pos 0) 10
   -- -9 * 10^18 and then 12 * 10^18, a product that alone does not fit
-  pub product : lotOf 1100 (of 100 (negsuc 89999999999999999) ∷ of 1000 (pos 12000000000000000) ∷ []) ≡ brings (pos 3000000000000000000) 0
+  pub product : lotOf 3000 (of 1000 (negsuc 8999999999999999) ∷ of 2000 (pos 6000000000000000) ∷ []) ≡ brings (pos 3000000000000000000) 0
   -- -2^63 fits, and one below does not
   pub least : lotOf 536870912 (of 536870912 (negsuc 17179869183) ∷ []) ≡ brings (negsuc 9223372036854775807) 0
   pub below : lotOf 536870913 (of 536870912 (negsuc 17179869183) ∷ of 1 (negsuc 0) ∷ []) ≡ Lot.Over

@@ -21,7 +21,7 @@ sizes (e ∷ es) = e .size ∷ sizes es
 pub record Exactly (n : ℕ) (es : List Entry) : Type 0 where
   -- The units taken and those left add up to the quantity.
   pub conserved : total (unitsOf n es) + leftOf n es ≡ n
-  -- A place gives units only when all before it are used up.
+  -- A place takes units only where all before it are used up.
   pub in-order : (k : ℕ) → 0 < getD (unitsOf n es) k 0 → take k (unitsOf n es) ≡ take k (sizes es)
   -- Something is left only where the side is used up.
   pub used-up : 0 < leftOf n es → unitsOf n es ≡ sizes es

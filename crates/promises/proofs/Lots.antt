@@ -4,7 +4,7 @@ use mathlib.Core.Bool.{Bool, true, false, cond}
 use mathlib.Core.List.{List, [], _∷_, _++_}
 use Prim.Native.Nat.{ℕ, _≤_}
 use native.Mathlib.Omega.{arith}
-use lib.Dec.{leb, eqb}
+use lib.Dec.{leb}
 use lib.IntN.{ℤ, pos}
 use lib.ListN.{length, take}
 use lib.Seq.{sets}
@@ -18,7 +18,7 @@ use Rattle.book.specs.Rules.{Lists, applied, afterAction, afterNew, afterChange
 use Rattle.book.specs.declared.Entry.{Entry}
 use Rattle.cells.proofs.Stores.{take-sets}
 use Rattle.sums.specs.Sums.{fits}
-use Rattle.proceeds.specs.Lots.{unitsOf, leftOf, valueOf, sumOver, allFit, lotOf}
+use Rattle.proceeds.specs.Lots.{unitsOf, leftOf, valueOf, sumOver, sumAfter, allFit, lotOf}
 use Rattle.board.specs.Board.{Board, anyWaiting, look}
 use Rattle.board.specs.Count.{joining, hit, give, gives, count, number}
 use Rattle.board.specs.Snapshot.{entriesOf, run, after, snap}
@@ -28,101 +28,95 @@ use Rattle.board.specs.Calls.{inst}
 use Rattle.store.specs.Meaning.{boardAt}
 use Rattle.sound.specs.Sound.{sound}
 use Rattle.opening.specs.Opening.{openAnswer, openStore}
-use Rattle.quote.specs.Quotes.{given, quoteOf}
+use Rattle.quote.specs.Quotes.{given, quoteOf, ifQuoted}
 use Rattle.quote.specs.declared.Top.{Top}
 use Rattle.quote.specs.declared.Quote.{Quote}
 use Rattle.quote.specs.declared.Quoted.{Quoted}
 use Rattle.ask.specs.Ask.{bitsOf, momentWords, topWords, quoteWords, quoteSize, quoteNumber, quoteAnswer, quoteOut}
-use Rattle.backing.specs.Backing.{quotedOf, sideFor, ifGiven, behind}
+use Rattle.backing.specs.Backing.{quotedOf, sideFor, behind}
 use Rattle.lots.specs.declared.Sold.{Sold}
 use Rattle.lots.specs.declared.Lotted.{Lotted}
-use Rattle.lots.specs.Lots.{onQuote, lottedOf, lotNumber}
-use Rattle.lots.specs.Rooms.{lotSize, soldWords, inRoom, lotAnswer, lotOut}
-use Rattle.lots.specs.Laws.{Rests}
+use Rattle.lots.specs.Lots.{onQuote, lottedOf}
+use Rattle.lots.specs.Rooms.{lotSize, soldWords, lotAnswer, lotOut}
+use Rattle.lots.specs.Laws.{Rests, Brings}
 use Rattle.lots.proofs.Laws.{lots-are-ordered}
 use Rattle.samples.specs.Says.{bid-2, offer-3}
 use Rattle.promises.specs.Acts.{lefts}
 use Rattle.promises.specs.Hut.{received, ours}
-use Rattle.promises.specs.Lots.{LotsAreDated, BesideQuotes, LotsBesideQuotes, atFive, HutDeals}
+use Rattle.promises.specs.Lots.{LotsAreDated, LotsOverByStream, BesideQuotes, LotsBesideQuotes, atFive, HutDeals}
 use Rattle.promises.proofs.Recovery.{Holds}
 use Rattle.promises.proofs.Hut.{end, book, hut-holds}
 use Rattle.promises.proofs.Quotes.{given-by, counted, as-of}
 
--- ---- what an answer 0 says
-
--- in room that is long enough, the number of the lot is the answer
-in-room : (room answer : ℕ) → inRoom room answer ≡ 0 → answer ≡ 0
-in-room room answer = go (leb lotSize room) (eqb answer 17)
-  where
-    go : (t z : Bool) → cond t answer (cond z 17 18) ≡ 0 → answer ≡ 0
-    go true z e = e
-    go false true e = absurd (omega arith)
-    go false false e = absurd (omega arith)
-
--- the quote that a lot rests on
-pub record OnQuote (buying : Bool) (id n : ℕ) (now : List ℕ) (limit : ℕ) (xs : List ℕ) : Type 0 where
-  pub q : Quote
-  pub s : Sold
+-- ---- the quote that a lot rests on, on the board
+pub record OnBoard (id : ℕ) (now : List ℕ) (limit : ℕ) (xs : List ℕ) (q : Quote) : Type 0 where
   pub is-sound : sound xs ≡ true
   pub quoted : quoteOf id now limit (boardAt xs) ≡ Quoted.Is q
-  pub lotted : lottedOf buying id n now limit xs ≡ Lotted.Is s
-  pub rests : Rests q n (sideFor buying (inst id (boardAt xs) .book)) s
+
+module _ (id : ℕ) (now : List ℕ) (limit : ℕ) (xs : List ℕ) where
+  -- the quote of a store that is given is its board's
+  on-board : (q : Quote) → quotedOf id now limit xs ≡ Quoted.Is q → OnBoard id now limit xs q
+  unfolding quotedOf
+  on-board q = go (sound xs) refl
+    where
+      go : (t : Bool) → sound xs ≡ t → cond t (quoteOf id now limit (boardAt xs)) Quoted.Unsound ≡ Quoted.Is q → OnBoard id now limit xs q
+      go true s e = record { is-sound = s; quoted = e }
+      go false s e = let z : _≡_ {A = ℕ} 0 1 = cc in absurd (omega arith)
+
+  behind-is : (buying : Bool) (q : Quote) → quotedOf id now limit xs ≡ Quoted.Is q → behind buying id now limit xs ≡ sideFor buying (inst id (boardAt xs) .book)
+  unfolding behind
+  behind-is buying q e = rw e
+
+  -- a quote that is answered 0 is given
+  is-quoted : (r : Quoted) → quoteNumber r ≡ 0 → (q : Quote) × (r ≡ Quoted.Is q)
+  is-quoted (Quoted.Is q) e = (q, refl)
+  is-quoted Quoted.Unsound e = absurd (omega arith)
+  is-quoted Quoted.BadArgument e = absurd (omega arith)
+  is-quoted Quoted.NotFollowed e = absurd (omega arith)
+  is-quoted Quoted.Waiting e = absurd (omega arith)
+  is-quoted Quoted.NothingHeard e = absurd (omega arith)
+  is-quoted Quoted.BeforeHeard e = absurd (omega arith)
+  is-quoted Quoted.TooOld e = absurd (omega arith)
+
+  -- and is the board's
+  is-given : (q p : Quote) → Quoted.Is q ≡ Quoted.Is p → q ≡ p
+  is-given q p e = cc
+
+  of-quote : (q : Quote) → OnBoard id now limit xs q → q ≡ given (boardAt xs) (inst id (boardAt xs))
+  of-quote q o =
+      is-given q (given (boardAt xs) (inst id (boardAt xs))) (sym (o .quoted) ∙ given-by id now limit (boardAt xs) (ap quoteNumber (o .quoted)) .said)
 
 module _ (buying : Bool) (id n : ℕ) (now : List ℕ) (limit : ℕ) (xs : List ℕ) where
   abbrev side : List Entry
   side = sideFor buying (inst id (boardAt xs) .book)
 
-  behind-is : (q : Quote) → quotedOf id now limit xs ≡ Quoted.Is q → behind buying id now limit xs ≡ side
-  unfolding behind
-  behind-is q e = rw e
-
-  -- the quote of a store that is given is its board's
-  of-board : (q : Quote) → quotedOf id now limit xs ≡ Quoted.Is q → (sound xs ≡ true) × (quoteOf id now limit (boardAt xs) ≡ Quoted.Is q)
-  unfolding quotedOf
-  of-board q = go (sound xs)
-    where
-      go : (t : Bool) → cond t (quoteOf id now limit (boardAt xs)) Quoted.Unsound ≡ Quoted.Is q → (t ≡ true) × (quoteOf id now limit (boardAt xs) ≡ Quoted.Is q)
-      go true e = (refl, e)
-      go false e = let z : _≡_ {A = ℕ} 0 1 = cc in absurd (omega arith)
-
-  pub on-quote : (out : List ℕ) → lotAnswer buying id n now limit out xs ≡ 0 → OnQuote buying id n now limit xs
-  unfolding lotAnswer lottedOf
-  on-quote out a =
-      let o = lots-are-ordered (quotedOf id now limit xs) n (behind buying id now limit xs) in
-      let (s, l) = o .done (in-room (length out) (lotNumber (lottedOf buying id n now limit xs)) a) in
-      let (q, (e, r)) = o .given s l in
-      let b = of-board q e in
-      record { q = q; s = s; is-sound = b .0; quoted = b .1; lotted = l; rests = subst (λ (es : List Entry). Rests q n es s) (behind-is q e) r }
-
-  -- its number and its moment are the board's
-  is-given : (q p : Quote) → Quoted.Is q ≡ Quoted.Is p → q ≡ p
-  is-given q p e = cc
-
-  of-quote : (o : OnQuote buying id n now limit xs) → o .q ≡ given (boardAt xs) (inst id (boardAt xs))
-  of-quote o =
-      is-given (o .q) (given (boardAt xs) (inst id (boardAt xs))) (sym (o .quoted) ∙ given-by id now limit (boardAt xs) (ap quoteNumber (o .quoted)) .said)
+  abbrev sale : Sold
+  sale = record { sum = sumOver n side; left = leftOf n side; number = boardAt xs .H; heard = boardAt xs .heard }
 
   sold-as : (s t : Sold) → s .sum ≡ t .sum → s .left ≡ t .left → s .number ≡ t .number → s .heard ≡ t .heard → soldWords s ≡ soldWords t
   sold-as s t a b c d = rw (a, b, c, d)
 
-  -- what stands in the room
-  pub words : (o : OnQuote buying id n now limit xs)
-      → soldWords (o .s) ≡ soldWords (record { sum = sumOver n side; left = leftOf n side; number = boardAt xs .H; heard = boardAt xs .heard })
-  words o =
-      sold-as (o .s) (record { sum = sumOver n side; left = leftOf n side; number = boardAt xs .H; heard = boardAt xs .heard }) (o .rests .sum) (o .rests .left)
-      (o .rests .number ∙ ap (λ (q : Quote). q .number) (of-quote o)) (o .rests .heard ∙ ap (λ (q : Quote). q .heard) (of-quote o))
+  rests : (g : Brings buying id n now limit xs) → Rests (g .q) n side (g .s)
+  rests g = subst (λ (es : List Entry). Rests (g .q) n es (g .s)) (behind-is id now limit xs buying (g .q) (g .quoted)) (g .rests)
 
-  pub out-is : (out : List ℕ) → lotAnswer buying id n now limit out xs ≡ 0 → (o : OnQuote buying id n now limit xs)
-      → lotOut buying id n now limit out xs ≡ sets out 0 (soldWords (record { sum = sumOver n side; left = leftOf n side; number = boardAt xs .H; heard = boardAt xs .heard }))
+  -- what stands in the room
+  words : (g : Brings buying id n now limit xs) → soldWords (g .s) ≡ soldWords sale
+  words g =
+      let r = rests g in
+      let q = of-quote id now limit xs (g .q) (on-board id now limit xs (g .q) (g .quoted)) in
+      sold-as (g .s) sale (r .sum) (r .left) (r .number ∙ ap (λ (q : Quote). q .number) q) (r .heard ∙ ap (λ (q : Quote). q .heard) q)
+
+  out-is : (out : List ℕ) → lotAnswer buying id n now limit out xs ≡ 0 → (g : Brings buying id n now limit xs) → lotOut buying id n now limit out xs ≡ sets out 0 (soldWords sale)
   unfolding lotOut
-  out-is out a o = rw (a, o .lotted) (ap (sets out 0) (words o))
+  out-is out a g = rw (a, g .lotted) (ap (sets out 0) (words g))
 
 -- ---- and then it is dated
 pub lots-are-dated : LotsAreDated
 lots-are-dated depth stream n d w ids xs e cs p buying units now limit out a =
     let ys = lefts cs (openStore depth ids xs) in
-    let o = on-quote buying d units now limit ys out a in
-    let g = given-by d now limit (boardAt ys) (ap quoteNumber (o .quoted)) in
+    let t = lots-are-ordered buying d units now limit out ys .given a in
+    let b = on-board d now limit ys (t .q) (t .quoted) in
+    let g = given-by d now limit (boardAt ys) (ap quoteNumber (b .quoted)) in
     let (k, z) = counted depth stream n d w ids xs e cs p now limit (quoteOf d now limit (boardAt ys)) g in
     let side = sideFor buying (inst d (boardAt ys) .book) in
     record {
@@ -130,9 +124,26 @@ lots-are-dated depth stream n d w ids xs e cs p buying units now limit out a =
       heard = boardAt ys .heard;
       book = inst d (boardAt ys) .book;
       as-of = as-of depth stream n d w ids xs e cs p now limit (quoteOf d now limit (boardAt ys)) g k z;
-      fit = o .rests .fit;
-      room = out-is buying d units now limit ys out a o
+      fit = rests buying d units now limit ys t .fit;
+      room = out-is buying d units now limit ys out a t
           ∙ ap (λ (H : ℕ). sets out 0 (soldWords (record { sum = sumOver units side; left = leftOf units side; number = H; heard = boardAt ys .heard }))) z;
+    }
+
+pub lots-over-by-stream : LotsOverByStream
+lots-over-by-stream depth stream n d w ids xs e cs p buying units now limit out a =
+    let ys = lefts cs (openStore depth ids xs) in
+    let (l, (r, (u, (j, (m, o))))) = lots-are-ordered buying d units now limit out ys .only a in
+    let (q, f) = is-quoted d now limit ys (quotedOf d now limit ys) r in
+    let b = on-board d now limit ys q f in
+    let g = given-by d now limit (boardAt ys) (ap quoteNumber (b .quoted)) in
+    let (k, z) = counted depth stream n d w ids xs e cs p now limit (quoteOf d now limit (boardAt ys)) g in
+    record {
+      k = k;
+      heard = boardAt ys .heard;
+      book = inst d (boardAt ys) .book;
+      as-of = as-of depth stream n d w ids xs e cs p now limit (quoteOf d now limit (boardAt ys)) g k z;
+      j = j;
+      over = ap (λ (es : List Entry). fits (sumAfter units es j)) (sym (behind-is d now limit ys buying q f)) ∙ o;
     }
 
 -- ---- a lot beside a quote
@@ -158,39 +169,36 @@ module _ (buying : Bool) (id n : ℕ) (now : List ℕ) (limit : ℕ) (room out x
       go true = refl
       go false = refl
 
-  lot-is : lotAnswer buying id n now limit out xs ≡ lotNumber (onQuote (quotedOf id now limit xs) n (behind buying id now limit xs))
-  unfolding lotAnswer lottedOf
-  lot-is = rw (le-leb lotSize (length out) k)
-
   refused : (quoteAnswer id now limit room xs ≡ 0 → ⊥) → lotAnswer buying id n now limit out xs ≡ quoteAnswer id now limit room xs
-  refused h =
-      lot-is ∙ ap lotNumber (lots-are-ordered (quotedOf id now limit xs) n (behind buying id now limit xs) .quote (λ z. h (quote-is ∙ z))) ∙ sym quote-is
+  refused h = lots-are-ordered buying id n now limit out xs .quote k (λ z. h (quote-is ∙ z)) ∙ sym quote-is
 
-  both : OnQuote buying id n now limit xs → quoteAnswer id now limit room xs ≡ 0
-  unfolding quoteAnswer
-  both o = rw (o .is-sound, le-leb quoteSize (length room) l, o .quoted)
+  both : (g : Brings buying id n now limit xs) → quoteAnswer id now limit room xs ≡ 0
+  both g = quote-is ∙ ap quoteNumber (g .quoted)
 
-  quote-out : OnQuote buying id n now limit xs → quoteOut id now limit room xs ≡ sets room 0 (quoteWords (boardAt xs .depth) (given (boardAt xs) (inst id (boardAt xs))))
+  quote-out : (g : Brings buying id n now limit xs)
+      → quoteOut id now limit room xs ≡ sets room 0 (quoteWords (boardAt xs .depth) (given (boardAt xs) (inst id (boardAt xs))))
   unfolding quoteOut
-  quote-out o = rw (both o, o .quoted) (ap (λ (q : Quote). sets room 0 (quoteWords (boardAt xs .depth) q)) (of-quote buying id n now limit xs o))
+  quote-out g =
+      let b = on-board id now limit xs (g .q) (g .quoted) in
+      rw (both g, b .quoted) (ap (λ (q : Quote). sets room 0 (quoteWords (boardAt xs .depth) q)) (of-quote id now limit xs (g .q) b))
 
   dated : lotAnswer buying id n now limit out xs ≡ 0 → take 3 (lotOut buying id n now limit out xs) ≡ take 3 (quoteOut id now limit room xs)
   dated a =
-      let o = on-quote buying id n now limit xs out a in
-      ap (take 3) (out-is buying id n now limit xs out a o)
-      ∙ lot-front out (record { sum = sumOver n (sideFor buying (inst id (boardAt xs) .book)); left = leftOf n (sideFor buying (inst id (boardAt xs) .book)); number = boardAt xs .H; heard = boardAt xs .heard }) (omega (arith, k))
+      let g = lots-are-ordered buying id n now limit out xs .given a in
+      ap (take 3) (out-is buying id n now limit xs out a g)
+      ∙ lot-front out (sale buying id n now limit xs) (omega (arith, k))
       ∙ sym (quote-front room (boardAt xs .depth) (given (boardAt xs) (inst id (boardAt xs))) (omega (arith, l)))
-      ∙ ap (take 3) (sym (quote-out o))
+      ∙ ap (take 3) (sym (quote-out g))
 
-  pub beside : BesideQuotes buying id n now limit room out xs
-  beside = record { refused = refused; given = λ a. both (on-quote buying id n now limit xs out a); dated = dated }
+  beside : BesideQuotes buying id n now limit room out xs
+  beside = record { refused = refused; given = λ a. both (lots-are-ordered buying id n now limit out xs .given a); dated = dated }
 
 pub lots-beside-quotes : LotsBesideQuotes
 lots-beside-quotes buying id n now limit room out xs l k = beside buying id n now limit room out xs l k
 
 -- ---- the hut that deals
 module _ (depth : ℕ) (xs : List ℕ) (b : Board) (h : Holds depth xs b) (buying : Bool) (id n : ℕ) (now : List ℕ) (limit : ℕ) where
-  of-holds : (q : Quoted) → quoteOf id now limit b ≡ q → lottedOf buying id n now limit xs ≡ onQuote q n (ifGiven q (sideFor buying (inst id b .book)))
+  of-holds : (q : Quoted) → quoteOf id now limit b ≡ q → lottedOf buying id n now limit xs ≡ onQuote q n (ifQuoted (λ p. sideFor buying (inst id b .book)) [] q)
   unfolding lottedOf quotedOf behind
   of-holds q e = rw (h .sound, h .same, e)
 
@@ -226,10 +234,17 @@ module _ (xs room : List ℕ) (e : openAnswer 0 ours xs ≡ 0) (l : lotSize ≤ 
       ∙ ap (λ (b : Lists). onQuote (Quoted.Is (record { number = 3; heard = heard-at; bid = Top.Held bid-2; offer = Top.Held offer-3 })) 6 (sideFor buying b)) book
       ∙ hut-sold buying (record { number = 3; heard = heard-at; bid = Top.Held bid-2; offer = Top.Held offer-3 })
 
+  hut-answer : lotAnswer buying 7 6 atFive 30 room (lefts received (openStore 0 ours xs)) ≡ 0
+  unfolding lotAnswer
+  hut-answer = rw (hut-lotted, le-leb lotSize (length room) l)
+
   hut-out : lotOut buying 7 6 atFive 30 room (lefts received (openStore 0 ours xs)) ≡ sets room 0 (3 ∷ 20250103 ∷ 130002000 ∷ bitsOf (hut-sum buying) ∷ hut-left buying ∷ [])
-  unfolding lotAnswer lotOut
-  hut-out = rw (hut-lotted, le-leb lotSize (length room) l) (ap (λ (m : List ℕ). sets room 0 (3 ∷ m ++ (bitsOf (hut-sum buying) ∷ hut-left buying ∷ []))) heard-words)
+  unfolding lotOut
+  hut-out = rw (hut-answer, hut-lotted) (ap (λ (m : List ℕ). sets room 0 (3 ∷ m ++ (bitsOf (hut-sum buying) ∷ hut-left buying ∷ []))) heard-words)
 
 pub hut-deals : HutDeals
 unfolding bitsOf
-hut-deals xs room e l = (hut-out xs room e l false, hut-out xs room e l true)
+hut-deals xs room e l = (
+  record { answer = hut-answer xs room e l false; out = hut-out xs room e l false },
+  record { answer = hut-answer xs room e l true; out = hut-out xs room e l true },
+)

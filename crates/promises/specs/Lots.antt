@@ -42,6 +42,24 @@ LotsAreDated =
     → (buying : Bool) (n : ℕ) (now : List ℕ) (limit : ℕ) (out : List ℕ) → lotAnswer buying d n now limit out (lefts cs (openStore depth ids xs)) ≡ 0
     → LotDated depth stream d buying n now limit out (lotOut buying d n now limit out (lefts cs (openStore depth ids xs)))
 
+-- And a lot that is refused for its size is one of which a sum down the stream's book does not fit.
+pub record LotOver (depth : ℕ) (stream : List (List ℕ)) (d : ℕ) (buying : Bool) (n : ℕ) (now : List ℕ) (limit : ℕ) : Type 0 where
+  pub k : ℕ
+  pub heard : ℕ
+  pub book : Lists
+  pub as-of : AsOf depth stream d now limit k heard book
+  pub j : ℕ
+  pub over : fits (sumAfter n (sideFor buying book) j) ≡ false
+
+abbrev pub LotsOverByStream : Type 0
+LotsOverByStream =
+    (depth : ℕ) (stream : List (List ℕ)) → NumberedFromOne (readIn depth stream)
+    → (d : ℕ) → NeverBreaks (readIn depth stream) d
+    → (ids xs : List ℕ) → openAnswer depth ids xs ≡ 0
+    → (cs : List Act) → Along (Supposed depth stream d) cs (openStore depth ids xs)
+    → (buying : Bool) (n : ℕ) (now : List ℕ) (limit : ℕ) (out : List ℕ) → lotAnswer buying d n now limit out (lefts cs (openStore depth ids xs)) ≡ 35
+    → LotOver depth stream d buying n now limit
+
 -- A lot beside a quote of the same store, each in room that is long enough: where the quote is refused the lot is refused by the same
 -- number, whatever the quantity; and where a lot is given so is the quote, and both rooms begin with the same three numbers, H and the
 -- moment at which it was heard.
@@ -60,8 +78,13 @@ LotsBesideQuotes =
 abbrev pub atFive : List ℕ
 atFive = 50 ∷ 48 ∷ 50 ∷ 53 ∷ 48 ∷ 49 ∷ 48 ∷ 51 ∷ 45 ∷ 49 ∷ 51 ∷ 58 ∷ 48 ∷ 48 ∷ 58 ∷ 48 ∷ 53 ∷ []
 
+-- A lot of 6 is given and leaves these numbers in the room.
+pub record Deals (buying : Bool) (room xs numbers : List ℕ) : Type 0 where
+  pub answer : lotAnswer buying 7 6 atFive 30 room xs ≡ 0
+  pub out : lotOut buying 7 6 atFive 30 room xs ≡ sets room 0 numbers
+
 abbrev pub HutDeals : Type 0
 HutDeals =
     (xs room : List ℕ) → openAnswer 0 ours xs ≡ 0 → lotSize ≤ length room
-    → (lotOut false 7 6 atFive 30 room (lefts received (openStore 0 ours xs)) ≡ sets room 0 (3 ∷ 20250103 ∷ 130002000 ∷ 1201000000 ∷ 1 ∷ []))
-    × (lotOut true 7 6 atFive 30 room (lefts received (openStore 0 ours xs)) ≡ sets room 0 (3 ∷ 20250103 ∷ 130002000 ∷ 1443000000 ∷ 0 ∷ []))
+    → Deals false room (lefts received (openStore 0 ours xs)) (3 ∷ 20250103 ∷ 130002000 ∷ 1201000000 ∷ 1 ∷ [])
+    × Deals true room (lefts received (openStore 0 ours xs)) (3 ∷ 20250103 ∷ 130002000 ∷ 1443000000 ∷ 0 ∷ [])

@@ -1,2 +1,2 @@
-// The promises in one place, over the definitions that the exported functions' contracts cite: recovery (demand 3), the
-// marked cases, the round trip, and that each exported function is settled. Definitions and theorems alone.
+// The promises in one place, over the definitions that the exported functions' contracts cite: recovery (demand 3), dated quotes and
+// lots, the marked cases, the round trip, recordings, and that refusals stay. Definitions and theorems alone.

@@ -1,4 +1,4 @@
--- What is known of a quote that is not given: every number of a refusal is above 0. Assumes nothing.
+-- What is known of a quote that is not given, by its place among the cases. Assumes nothing.
 use mathlib.Core.Path.{_≡_, refl}
 use mathlib.Core.Bool.{false}
 use mathlib.Core.List.{List, [], _∷_}
@@ -6,7 +6,8 @@ use Prim.Native.Nat.{ℕ}
 use lib.Dec.{eqb}
 use denote.Enum.Declared.{tagOf}
 use types.Run.{OneOf, miss}
-use Rattle.quote.specs.Quotes.{quoteNumber}
+use Rattle.quote.specs.Quotes.{ifQuoted, quoteNumber}
+use Rattle.quote.specs.declared.Quote.{Quote}
 use Rattle.quote.specs.declared.Quoted.{Quoted}
 use Rattle.quote.proofs.Quoted.{the-type}
 
@@ -23,3 +24,13 @@ refused-number Quoted.Waiting h = refl
 refused-number Quoted.NothingHeard h = refl
 refused-number Quoted.BeforeHeard h = refl
 refused-number Quoted.TooOld h = refl
+
+pub refused-is : {A : Type 0} (f : Quote → A) (z : A) (q : Quoted) → OneOf refusals (tagOf the-type q) → ifQuoted f z q ≡ z
+refused-is f z (Quoted.Is q) h = absurd (miss refusals 0 tt h)
+refused-is f z Quoted.Unsound h = refl
+refused-is f z Quoted.BadArgument h = refl
+refused-is f z Quoted.NotFollowed h = refl
+refused-is f z Quoted.Waiting h = refl
+refused-is f z Quoted.NothingHeard h = refl
+refused-is f z Quoted.BeforeHeard h = refl
+refused-is f z Quoted.TooOld h = refl

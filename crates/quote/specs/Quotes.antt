@@ -49,6 +49,17 @@ atNow (Number.Is now) id limit b =
 unfoldable pub quoteOf : ℕ → List ℕ → ℕ → Board → Quoted
 quoteOf id now limit b = atNow (momentOf now) id limit b
 
+-- What goes with a quote that is given, and what with every refusal.
+abbrev pub ifQuoted : {A : Type 0} → (Quote → A) → A → Quoted → A
+ifQuoted f z (Quoted.Is q) = f q
+ifQuoted f z Quoted.Unsound = z
+ifQuoted f z Quoted.BadArgument = z
+ifQuoted f z Quoted.NotFollowed = z
+ifQuoted f z Quoted.Waiting = z
+ifQuoted f z Quoted.NothingHeard = z
+ifQuoted f z Quoted.BeforeHeard = z
+ifQuoted f z Quoted.TooOld = z
+
 -- Document 01's number of each case. 17 is of a store that is no board.
 abbrev pub quoteNumber : Quoted → ℕ
 quoteNumber (Quoted.Is q) = 0

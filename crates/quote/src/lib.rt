@@ -26,7 +26,7 @@ pub struct Quote {
     pub offer: Top,
 }
 
-// A quote, or why there is none: 17, 18, 20, 21, 22, 23, 24.
+// A quote, or why there is none: 17, 18, 20, 21, 22, 23, 24. 17 is of a store that is no board; no function here makes it.
 pub enum Quoted {
     Is(Quote),
     Unsound,

@@ -5,7 +5,7 @@ use lib.IntN.{ℤ, pos, negsuc, natAbs, subℕ, _+ℤ_}
 use lib.Signed.{leZ}
 use Rattle.sums.specs.declared.Level.{Level}
 
--- The greatest number of 64 bits, 2^63 - 1, and how far the least one, -2^63, lies below -1.
+-- The greatest signed number of 64 bits, 2^63 - 1, and how far the least one, -2^63, lies below -1.
 abbrev pub mostAbove : ℕ
 mostAbove = 9223372036854775807
 
@@ -24,6 +24,6 @@ half = 9223372036854775808
 unfoldable pub sumOf : ℕ → ℤ
 sumOf level = subℕ level half
 
--- The level of a sum that fits, the sum and 2^63.
+-- The level of a sum that fits: the sum plus 2^63.
 unfoldable pub levelOf : ℤ → Level
 levelOf z = cond (fits z) (Level.At (natAbs (z +ℤ pos half))) Level.Out

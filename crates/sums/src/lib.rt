@@ -1,5 +1,5 @@
 // Exact sums of price times units in a signed number of 64 bits, and that a sum does not fit (document 02, K11). A sum is worked on as
-// its level, the sum and 2^63, an unsigned number: a step up or down is allowed exactly if it is at most the room that is left there, and
+// its level, the sum plus 2^63, an unsigned number: a step up or down is allowed exactly if it is at most the room that is left there, and
 // a division tells that before anything is multiplied.
 ghost use mathlib.Core.Path.{_≡_};
 ghost use lib.IntN.{pos, natAbs, _+ℤ_, _*ℤ_};
@@ -24,7 +24,7 @@ pub const HALF: u64 = 9223372036854775808;
 // 2^64 - 1: the highest level.
 const MOST: u64 = 18446744073709551615;
 
-// The distance from 0, of every price.
+// How far a price lies from 0; the least signed number too.
 fn magnitude(p: i64) -> u64
     ensures { λ r. ⌜ r ≡ natAbs p ⌝ }
 {
