@@ -18,6 +18,7 @@
 #include "recordings.hpp"
 #include "same.hpp"
 #include "selkavorn.h"
+#include "selkavorn_lots.h"
 #include "store.hpp"
 #include "streams.hpp"
 #include "walk.hpp"
@@ -220,6 +221,13 @@ bool quote(const Store &store, uint64_t id) {
                            SELKAVORN_QUOTE_NUMBERS) == SELKAVORN_DONE;
 }
 
+bool sell(const Store &store, uint64_t id, uint64_t quantity) {
+    static const std::string now = "20250103-14:00:00.000";
+    uint64_t numbers[SELKAVORN_LOT_NUMBERS];
+    return selkavorn_sell(store.data(), store.size(), id, quantity, bytes(now), now.size(), SELKAVORN_LONGEST_LIMIT_S, numbers,
+                          SELKAVORN_LOT_NUMBERS) == SELKAVORN_DONE;
+}
+
 bool write(const Store &store, uint64_t id) {
     static const std::string now = "20250103-14:00:00.000", name = "HUT";
     uint8_t out[SELKAVORN_LONGEST_WRITING];
@@ -237,13 +245,33 @@ bool summary(const Store &store) {
     return selkavorn_board(store.data(), store.size(), numbers, SELKAVORN_BOARD_NUMBERS) == SELKAVORN_DONE;
 }
 
+// The units of a book's bids: a lot of them takes all 20 places. Fails where the bids are fewer, or where a lot that is to be timed
+// brings something else than the board's places do.
+uint64_t whole_side(const Store &store, const SeenBoard &board, const SeenBook &book) {
+    const std::vector<SeenPlace> &bids = book.sides[0];
+    if (bids.size() != PLACES) fail("lots are sold to " + std::to_string(bids.size()) + " bids, not to " + std::to_string(PLACES));
+    uint64_t units = 0;
+    for (const SeenPlace &p : bids) units += p.size;
+    for (uint64_t quantity : {uint64_t{1}, units}) {
+        const std::string differs = lot_difference(store, board, book, quantity);
+        if (!differs.empty()) fail("a lot of " + std::to_string(quantity) + " units: " + differs);
+    }
+    return units;
+}
+
 // The other calls, on full books. A snapshot sets a book of 40 places.
 void measure_others(Depth depth, const FIX::DataDictionary &dictionary, const Measure &measure) {
     const Case c = {depth, 0, 0};
     Start s = start({depth, 1, 0}, dictionary);
-    for (const std::string &x : s.stream.changes) feed(s.store, x);
+    for (const std::string &x : s.stream.changes) {
+        feed(s.store, x);
+        feed(s.plain, x);
+    }
+    const SeenBoard held = seen(s.plain);
+    check_same({depth, 1, 0}, s.store, "the plain board", held);
     const std::vector<std::string> &ws = s.stream.snapshots;
-    const uint64_t *ids = s.stream.ids.data(), id = ids[0];
+    const SeenBook &book = held.books[0];
+    const uint64_t *ids = s.stream.ids.data(), id = book.id, units = whole_side(s.store, held, book);
     Store unheard;
     open(unheard, depth, s.stream);
     const plain_board plain_unheard = opened(depth, s.stream);
@@ -261,6 +289,8 @@ void measure_others(Depth depth, const FIX::DataDictionary &dictionary, const Me
         {columns(c, mean_length(ws), "QuickFIX snapshot"), ws.size(), [&] { board = s.board; },
          for_each(ws, [&](const std::string &w) { return peer_apply(dictionary, w, board); }), {}},
         {columns(c, 0, "quote"), CALLS_A_ROUND, [&] { asked.next(); }, again([&] { return quote(*asked, id); }), {}},
+        {columns(c, 0, "sell"), CALLS_A_ROUND, nothing, again([&] { return sell(*asked, id, 1); }), {}},
+        {columns(c, 0, "sell, 20 places"), CALLS_A_ROUND, nothing, again([&] { return sell(*asked, id, units); }), {}},
         {columns(c, 0, "write"), CALLS_A_ROUND, nothing, again([&] { return write(*asked, id); }), {}},
         {columns(c, 0, "state"), CALLS_A_ROUND, nothing, again([&] { return state(*asked, id); }), {}},
         {columns(c, 0, "board"), CALLS_A_ROUND, nothing, again([&] { return summary(*asked); }), {}},

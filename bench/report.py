@@ -6,7 +6,7 @@ import sys
 from results import (DEPTHS, EVEN, MACHINES, MIXED, MOST_SPREAD, SCANS, STARTS, STATES, Case, cases, load, median, message_name,
                      row_name, spread)
 
-CALLS = ("open", "feed", "quote", "write", "state", "board", "salvage")
+CALLS = ("open", "feed", "quote", "sell", "buy", "write", "state", "board", "salvage")
 MOST_STACK = 24576  # bytes
 MOST_NAMED = 12  # rows that were not steady and are named one by one
 
@@ -33,7 +33,8 @@ RATIOS = ((("feed", "parse"), ("feed", "book"), ("beyond", "plain"), ("scan", "l
           (("feed", "parse"), ("feed", "book"), ("scan", "loop")))
 OTHER_ROWS = (("open", "open, 16 instruments"), ("snapshot", "feed, a snapshot of 40 entries, {bytes:,} bytes"),
               ("plain snapshot", "the same, plain C reader"), ("QuickFIX snapshot", "the same, QuickFIX with its book"),
-              ("quote", "quote"), ("write", "write, 40 places"), ("state", "state"), ("board", "board"))
+              ("quote", "quote"), ("sell", "sell, 1 unit"), ("sell, 20 places", "sell, 20 places"), ("write", "write, 40 places"),
+              ("state", "state"), ("board", "board"))
 SCAN_ROWS = (("scan", "scan, order ids of 10 bytes"), ("mixed scan", "scan, order ids of 5 and of 10 bytes"),
              ("loop", "bare loop, sixteen numbers at a time: the floor"), ("plain loop", "bare loop, one number after the other"),
              ("scalar loop", "bare loop, one number to an instruction"))
@@ -66,6 +67,11 @@ NOTES = """\
   queue is compared too. Before anything is timed, the plain reader is asked 20,000 messages, many lost, repeated or harmed: it
   must give the same answer to each, every answer of a feed must come, and the books must stay the same. The run fails where
   anything differs.
+- `sell` is `selkavorn_sell` of the store and the instrument that are quoted, which has 20 bids: a lot of 1 unit, which takes place 1
+  alone, and one of as many units as all bids have, which takes the 20 places whole. It scans the store and makes the quote first, as
+  `quote` does. Before it is timed, the books are compared, and all numbers of both lots with what the plain reader's places bring;
+  the run fails where there are not 20 bids, or where a lot that is timed is not answered 0. `selkavorn_buy` does the same with the
+  offers: its stack is measured, and it is not timed.
 - A recording (`bench/recordings.cpp`) is messages of such streams end to end, at order depth, the same in every run: X of 1 entry
   alone; or mixed, with, of 16 messages on average, ten X of 1 entry, three of 4, one of 10, a heartbeat and a snapshot of 40 entries.
   Both are longer than a usual second-level cache. A damaged byte is replaced by a drawn one. Where that is one in 10, next to no

@@ -5,6 +5,7 @@
 #include <cmath>
 
 #include "selkavorn.h"
+#include "selkavorn_lots.h"
 
 namespace {
 
@@ -59,6 +60,17 @@ std::vector<uint64_t> expected_quote(const SeenBoard &board, const SeenBook &boo
     quote_side(book.sides[0], quote);
     quote_side(book.sides[1], quote);
     return quote;
+}
+
+std::vector<uint64_t> expected_lot(const SeenBoard &board, const SeenBook &book, uint64_t quantity) {
+    int64_t sum = 0;
+    uint64_t left = quantity;
+    for (const SeenPlace &p : book.sides[0]) {
+        const uint64_t units = std::min(left, p.size);
+        sum += p.price * static_cast<int64_t>(units);
+        left -= units;
+    }
+    return {board.number, board.date, board.time, static_cast<uint64_t>(sum), left};
 }
 
 // A price without needless zero, point or minus.
@@ -140,4 +152,12 @@ std::string difference(const Store &store, const SeenBoard &board) {
         if (!differs.empty()) return std::to_string(book.id) + ": " + differs;
     }
     return "";
+}
+
+std::string lot_difference(const Store &store, const SeenBoard &board, const SeenBook &book, uint64_t quantity) {
+    std::vector<uint64_t> lot(SELKAVORN_LOT_NUMBERS);
+    uint64_t answer = selkavorn_sell(store.data(), store.size(), book.id, quantity, bytes(NOW), NOW.size(), SELKAVORN_LONGEST_LIMIT_S,
+                                     lot.data(), lot.size());
+    if (answer != SELKAVORN_DONE) return "it is not sold: answer " + std::to_string(answer);
+    return lot == expected_lot(board, book, quantity) ? "" : "what it brings differs";
 }

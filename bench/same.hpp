@@ -36,3 +36,7 @@ SeenBoard seen(const plain_board &board);
 // One that is Live is quoted, once something is heard, and all numbers of the quote are compared; its book is written as a
 // snapshot, and all bytes of that are compared.
 std::string difference(const Store &store, const SeenBoard &board);
+
+// Says whether selling so many units of an instrument is refused, or gives another number than its bids in the board do, taken from
+// place 1 on; or nothing. Their sum must fit 64 bits.
+std::string lot_difference(const Store &store, const SeenBoard &board, const SeenBook &book, uint64_t quantity);

@@ -11,12 +11,14 @@
 #include <ucontext.h>
 
 #include "selkavorn.h"
+#include "selkavorn_lots.h"
 
 #define STACK_BYTES (1 << 18)
 #define PATTERN 0xA5
 #define NOW "20250103-13:00:00.000"
 #define FIRST_ID 7
 #define MOST_ENTRIES 64
+#define UNITS 5 /* of each place */
 
 static uint8_t lent[STACK_BYTES] __attribute__((aligned(64)));
 static uint64_t store[SELKAVORN_STORE_NUMBERS], ids[SELKAVORN_MOST_INSTRUMENTS], numbers[SELKAVORN_QUOTE_NUMBERS];
@@ -27,7 +29,7 @@ static ucontext_t here, there;
 static char message[SELKAVORN_LONGEST_MESSAGE + 64];
 static size_t message_bytes, followed, out_bytes = sizeof out;
 static const char *now = NOW;
-static uint64_t answered;
+static uint64_t quantity, answered;
 
 static void open_store(void) { answered = selkavorn_open(store, SELKAVORN_STORE_NUMBERS, SELKAVORN_ORDER_DEPTH, ids, followed); }
 
@@ -37,6 +39,18 @@ static void quote(void)
 {
     answered = selkavorn_quote(store, SELKAVORN_STORE_NUMBERS, FIRST_ID, (const uint8_t *)now, strlen(now), 30, numbers,
                                SELKAVORN_QUOTE_NUMBERS);
+}
+
+static void sell(void)
+{
+    answered = selkavorn_sell(store, SELKAVORN_STORE_NUMBERS, FIRST_ID, quantity, (const uint8_t *)now, strlen(now), 30, numbers,
+                              SELKAVORN_LOT_NUMBERS);
+}
+
+static void buy(void)
+{
+    answered = selkavorn_buy(store, SELKAVORN_STORE_NUMBERS, FIRST_ID, quantity, (const uint8_t *)now, strlen(now), 30, numbers,
+                             SELKAVORN_LOT_NUMBERS);
 }
 
 static void write_book(void)
@@ -102,7 +116,7 @@ static void say(const char *format, ...)
 
 static void say_values(int place)
 {
-    say("270=-24.01|271=5|37=ABCDEFGHIJKLMNOP|272=20250103|273=13:00:00.000|290=%d|", place);
+    say("270=-24.01|271=%d|37=ABCDEFGHIJKLMNOP|272=20250103|273=13:00:00.000|290=%d|", UNITS, place);
 }
 
 /* An X of entries with this action, each at the place above the last one's, or all at place 1. */
@@ -113,6 +127,15 @@ static void say_x(int number, int entries, int action, int above)
         say("279=%d|269=%d|48=%d|22=8|", action, i % 2, FIRST_ID);
         say_values(above ? 1 + i / 2 : 1);
     }
+}
+
+/* An X that changes place 20 of both sides to so many units, at such a price, that a large lot's sum does not fit. */
+static void say_dear(int number)
+{
+    say("35=X|34=%d|52=" NOW "|268=2|", number);
+    for (int side = 0; side < 2; side++)
+        say("279=1|269=%d|48=%d|22=8|270=99999.99|271=%d|37=ABCDEFGHIJKLMNOP|272=20250103|273=13:00:00.000|290=%d|", side, FIRST_ID,
+            SELKAVORN_LARGEST_LOT, SELKAVORN_MOST_PLACES);
 }
 
 /* A W of 20 bids and 20 offers. */
@@ -152,6 +175,21 @@ static void show_salvage(const char *what, uint64_t count)
     if (pieces[SELKAVORN_SALVAGE_COUNT] != count) {
         fprintf(stderr, "stack: salvage, %s: %d pieces, not %d\n", what, (int)pieces[SELKAVORN_SALVAGE_COUNT], (int)count);
         exit(1);
+    }
+}
+
+/* Sells and buys a lot; one that is done must leave so many units. */
+static void show_lot(const char *what, uint64_t units, uint64_t answer, uint64_t left)
+{
+    static void (*const ways[])(void) = {sell, buy};
+    static const char *const names[] = {"sell", "buy"};
+    quantity = units;
+    for (int way = 0; way < 2; way++) {
+        show(names[way], ways[way], what, answer);
+        if (answer == SELKAVORN_DONE && numbers[SELKAVORN_LOT_LEFT] != left) {
+            fprintf(stderr, "stack: %s, %s: %d units left, not %d\n", names[way], what, (int)numbers[SELKAVORN_LOT_LEFT], (int)left);
+            exit(1);
+        }
     }
 }
 
@@ -209,6 +247,34 @@ static void show_all_followed(void)
     show("state", state, "Waiting", SELKAVORN_DONE);
 }
 
+/* Lots of one instrument with 20 places on both sides: all of them taken, and refusals, a quote's and those of a lot alone. */
+static void show_lots(void)
+{
+    const uint64_t all = UNITS * SELKAVORN_MOST_PLACES;
+    followed = 1;
+    show("open", open_store, "1 instrument", SELKAVORN_DONE);
+    now = NOW;
+    show_lot("Waiting", 1, SELKAVORN_WAITING, 0);
+    say_w(0);
+    show_feed("a snapshot of 40", SELKAVORN_TAKEN, 0);
+    show_lot("nothing heard", 1, SELKAVORN_UNHEARD, 0);
+    say_x(1, 1, 1, 0);
+    show_feed("an X of 1", SELKAVORN_DONE, 0);
+    show_lot("1 unit", 1, SELKAVORN_DONE, 0);
+    show_lot("20 places", all, SELKAVORN_DONE, 0);
+    show_lot("20 places, the largest lot", SELKAVORN_LARGEST_LOT, SELKAVORN_DONE, SELKAVORN_LARGEST_LOT - all);
+    show_lot("no units", 0, SELKAVORN_ARGUMENT, 0);
+    say_dear(2);
+    show_feed("an X of 2", SELKAVORN_DONE, 0);
+    show_lot("a sum that does not fit at place 20", SELKAVORN_LARGEST_LOT, SELKAVORN_SUM_OVER, 0);
+    now = "20250103-12:59:59.999";
+    show_lot("now too early", all, SELKAVORN_AGE_BELOW, 0);
+    now = "20250103-13:00:30.001";
+    show_lot("too old", all, SELKAVORN_AGE_ABOVE, 0);
+    memset(store, 0xFF, sizeof store);
+    show_lot("an unsound store", all, SELKAVORN_STORE, 0);
+}
+
 /* Recordings of no bytes, of one message, of a part of it, and of one with a wrong sum. */
 static void show_recordings(void)
 {
@@ -229,6 +295,7 @@ int main(void)
     for (uint64_t i = 0; i < SELKAVORN_MOST_INSTRUMENTS; i++) ids[i] = FIRST_ID + i;
     show_one_followed();
     show_all_followed();
+    show_lots();
     show_recordings();
     return 0;
 }

@@ -1,14 +1,17 @@
 #!/usr/bin/env python3
-"""Tests of what the page says of runs: verdicts, spreads, and machines without a run of this version."""
+"""Tests of what the page says of runs: verdicts, spreads, calls, and machines without a run of this version."""
+import pathlib
+import re
 import unittest
 
 from chart import drawing
-from report import RECORDINGS, judged, page, verdict
+from report import CALLS, RECORDINGS, judged, page, verdict
 from results import EVEN, MIXED, SCANS, STARTS, STATES, Case, Recording, Run, cases, row_name, spread
 
 WHATS = ("feed", "scan", "loop", "plain", "parse", "validate", "book")
-OTHERS = ("open", "snapshot", "plain snapshot", "QuickFIX snapshot", "quote", "write", "state")
+OTHERS = ("open", "snapshot", "plain snapshot", "QuickFIX snapshot", "quote", "sell", "sell, 20 places", "write", "state")
 SCAN_WHATS = ("scan", "mixed scan", "loop", "plain loop", "scalar loop")
+HEADERS = pathlib.Path(__file__).resolve().parent.parent / "include"
 
 
 def row(of, what, ns):
@@ -32,7 +35,7 @@ def made(machine="aarch64", version="v1", changed=None):
     usual = {what: [{"feed": 200.0, "salvage": 20.0}.get(what, 100.0)] * 3 for _, what in keys}
     rows = [row(of, what, (changed or {}).get((of, what), usual[what])) for of, what in keys]
     recordings = [held(of, what) for of, what in keys if isinstance(of, Recording) and what != "parse"]
-    return Run({"facts": facts, "rows": rows, "recordings": recordings, "stacks": {machine: {"feed": 9}},
+    return Run({"facts": facts, "rows": rows, "recordings": recordings, "stacks": {machine: {"feed": 9, "sell": 8, "buy": 7}},
                 "sizes": {machine: {"selkavorn_feed": 7}}})
 
 
@@ -79,6 +82,22 @@ class Report(unittest.TestCase):
                          ["walk", "5", "5,000", "20", "20 to 20 (0.0%)", "-", "0.20 (0.20 to 0.20)"])
         starts = next(line for line in text.splitlines() if line.startswith("| false starts, 1,000 bytes, 10 starts"))
         self.assertEqual(starts.split("|")[-2].strip(), "-")
+
+    def test_lots_have_rows_behind_the_quote(self):
+        lots = {(Case("price", 0, 0), "sell"): [110.0] * 3, (Case("price", 0, 0), "sell, 20 places"): [120.0] * 3}
+        text = "\n".join(page("v1", [made(changed=lots)]))
+        rows = [[cell.strip() for cell in line.split("|")[1:3]] for line in text.splitlines()]
+        at = rows.index(["price depth: quote", "100"])
+        self.assertEqual(rows[at + 1:at + 3], [["price depth: sell, 1 unit", "110"], ["price depth: sell, 20 places", "120"]])
+        self.assertIn(["order depth: sell, 20 places", "100"], rows)
+
+    def test_lots_have_a_stack(self):
+        text = "\n".join(page("v1", [made()]))
+        self.assertRegex(text, r"\| sell +\| +8 \|\n\| buy +\| +7 \|")
+
+    def test_every_call_of_the_headers_has_a_name(self):
+        text = "".join(header.read_text(encoding="ascii") for header in HEADERS.glob("*.h"))
+        self.assertEqual(set(re.findall(r"^uint64_t selkavorn_(\w+)\(", text, re.M)), set(CALLS))
 
     def test_the_spread_of_a_walk_counts(self):
         noisy = made(changed={(STARTS, "salvage"): [95.0, 100.0, 106.0]}).noisy()
