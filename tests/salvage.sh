@@ -199,17 +199,23 @@ P
 # has_room: whether the folder for this test has 3 GB free.
 has_room() { [ "$(df -Pk "$work" | awk 'NR == 2 { print $4 }')" -gt 3000000 ]; }
 
-# walks_gigabyte: whether a recording of a gigabyte is walked in bounded memory, and every byte of it is told. The bound is in KB. On
-# x86-64 the program alone is measured, and what started it; elsewhere the emulator with it.
+# program NAME: how a program of the C side is run: the one for this machine where NATIVE names a folder that has it, as scripts/test
+# does; else the one for x86-64.
+program() { if [ -n "${NATIVE:-}" ]; then echo "$NATIVE/$1"; else echo "scripts/run-program target/c/$1"; fi; }
+
+# walks_gigabyte: whether a recording of a gigabyte is walked in bounded memory, and every byte of it is told. The bound is in KB. The
+# program alone is measured, and what started it; or the emulator with it.
 walks_gigabyte() {
-    if [ "$(uname -m)" = x86_64 ]; then bound=32768; else bound=262144; fi
+    if [ "$(uname -m)" = x86_64 ] || [ -n "${NATIVE:-}" ]; then bound=32768; else bound=262144; fi
     cat "$night" target/c/morning.fix >"$work/one"
     messages=$(scripts/run-program target/c/selkavorn salvage --csv "$work/one" | grep -c ^message)
     for _ in $(seq 17); do cat "$work/one" "$work/one" >"$work/two" && mv "$work/two" "$work/one"; done
-    python3 - "$work/one" "$bound" $((messages << 17)) <<'P'
+    # The words are split.
+    # shellcheck disable=SC2046
+    python3 - "$work/one" "$bound" $((messages << 17)) $(program selkavorn) <<'P'
 import os, re, resource, subprocess, sys
 path, bound, messages = sys.argv[1], int(sys.argv[2]), int(sys.argv[3])
-walk = subprocess.run(["scripts/run-program", "target/c/selkavorn", "salvage", "--totals", path], capture_output=True, text=True)
+walk = subprocess.run([*sys.argv[4:], "salvage", "--totals", path], capture_output=True, text=True)
 peak = resource.getrusage(resource.RUSAGE_CHILDREN).ru_maxrss
 told = [int(number) for number in re.findall(r"\d+", walk.stdout)]
 size = os.path.getsize(path)
@@ -221,7 +227,9 @@ P
     return "$walked"
 }
 
-check "windows" scripts/run-program target/c/windows
+# The words are split.
+# shellcheck disable=SC2046
+check "windows" $(program windows)
 check "salvage: night" salvages 6 night.expected "$night"
 check "salvage: --csv" salvages 6 night.csv --csv "$night"
 check "salvage: the rows add up" adds_up

@@ -1,6 +1,6 @@
 -- The answers come in the order of the checks, the bounds hold, and the calls are settled. Assumes nothing.
 use mathlib.Core.Path.{_≡_, refl, sym, ap, _∙_}
-use mathlib.Core.Bool.{Bool, true, false, cond}
+use mathlib.Core.Bool.{Bool, true, false, false≢true, cond}
 use mathlib.Core.List.{List}
 use Prim.Native.Nat.{ℕ, _≤_, _<_}
 use native.Mathlib.Omega.{arith}
@@ -31,6 +31,7 @@ pub record OnQuote (r : Quoted) (n : ℕ) (es : List Entry) : Type 0 where
   pub over : quoteNumber r ≡ 0 → unitsFine n ≡ true → (k : ℕ) → fits (sumAfter n es k) ≡ false → onQuote r n es ≡ Lotted.Over
   pub only : lotNumber (onQuote r n es) ≡ 35
       → (quoteNumber r ≡ 0) × ((unitsFine n ≡ true) × ((k : ℕ) × ((k ≤ length es) × (fits (sumAfter n es k) ≡ false))))
+  pub done : quoteNumber r ≡ 0 → unitsFine n ≡ true → ((k : ℕ) → fits (sumAfter n es k) ≡ true) → lotNumber (onQuote r n es) ≡ 0
   pub given : lotNumber (onQuote r n es) ≡ 0 → (q : Quote) × ((s : Sold) × ((r ≡ Quoted.Is q) × ((onQuote r n es ≡ Lotted.Is s) × Rests q n es s)))
 
 -- a refusal of the quote: every other case is out of the question
@@ -42,6 +43,7 @@ refused r n es e z w =
       units = λ h. absurd (z h);
       over = λ h. absurd (z h);
       only = λ h. absurd (w (sym (ap lotNumber e) ∙ h));
+      done = λ h. absurd (z h);
       given = λ h. absurd (z (sym (ap lotNumber e) ∙ h));
     }
 
@@ -62,6 +64,10 @@ module _ (q : Quote) (n : ℕ) (es : List Entry) where
       go (Lot.Is s) e = omega arith
       go Lot.Over e = omega arith
   not-17 false h = omega arith
+
+  all-fit : (l : Lot) → lotOf n es ≡ l → ((k : ℕ) → fits (sumAfter n es k) ≡ true) → lotNumber (dated q l) ≡ 0
+  all-fit (Lot.Is s) e h = refl
+  all-fit Lot.Over e h = let (k, (m, w)) = lots-are-exact n es .refused e in absurd (false≢true (sym w ∙ h k))
 
   -- what is given is exact and dated
   sold : (l : Lot) → lotOf n es ≡ l → lotNumber (dated q l) ≡ 0 → (s : Sold) × ((dated q l ≡ Lotted.Is s) × Rests q n es s)
@@ -95,6 +101,7 @@ module _ (q : Quote) (n : ℕ) (es : List Entry) where
         units = λ h t. rw t;
         over = λ h t k w. rw (t, lots-are-exact n es .refuses k w);
         only = only-sums (unitsFine n) refl;
+        done = λ h t w. rw t (all-fit (lotOf n es) refl w);
         given = λ h. let (s, r) = given (unitsFine n) h in (q, (s, (refl, r)));
       }
 
@@ -160,6 +167,7 @@ module _ (buying : Bool) (id n : ℕ) (now : List ℕ) (limit : ℕ) (room xs : 
         units = λ h z u. in-long (length room) number h ∙ ap lotNumber (o .units z u);
         over = λ h z u k w. in-long (length room) number h ∙ ap lotNumber (o .over z u k w);
         only = λ e. let (l, a) = in-only (length room) number 35 e (λ z. omega arith) (λ z. omega arith) in (l, o .only a);
+        done = λ h z u w. in-long (length room) number h ∙ o .done z u w;
         given = λ e.
             let (l, a) = in-only (length room) number 0 e (λ z. omega arith) (λ z. omega arith) in
             let (q, (s, (r, (t, w)))) = o .given a in

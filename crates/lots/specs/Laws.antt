@@ -54,7 +54,9 @@ pub record Answers (buying : Bool) (id n : ℕ) (now : List ℕ) (limit : ℕ) (
   pub only : lotAnswer buying id n now limit room xs ≡ 35
       → (lotSize ≤ length room) × ((quoteNumber (quotedOf id now limit xs) ≡ 0) × ((unitsFine n ≡ true)
       × ((k : ℕ) × ((k ≤ length (behind buying id now limit xs)) × (fits (sumAfter n (behind buying id now limit xs) k) ≡ false)))))
-  -- Else 0, with the lot.
+  -- Else it is 0, with the lot.
+  pub done : lotSize ≤ length room → quoteNumber (quotedOf id now limit xs) ≡ 0 → unitsFine n ≡ true
+      → ((k : ℕ) → fits (sumAfter n (behind buying id now limit xs) k) ≡ true) → lotAnswer buying id n now limit room xs ≡ 0
   pub given : lotAnswer buying id n now limit room xs ≡ 0 → Brings buying id n now limit xs
 
 abbrev pub LotsAreOrdered : Type 0

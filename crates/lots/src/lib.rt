@@ -6,7 +6,6 @@ use proceeds::Lot;
 use quote::Quote;
 use quote::Quoted;
 ghost use mathlib.Core.Path.{_≡_};
-ghost use mathlib.Core.Bool.{true, false};
 ghost use Prim.Native.Nat.{_≤_, _<_};
 ghost use lib.ListN.{length};
 ghost use lib.Seq.{sets};
@@ -131,9 +130,9 @@ fn tell(out: &mut [u64], l: Lotted) -> u64
     DONE
 }
 
-// What a lot of the instrument with this SecurityID brings or costs, now a date and time shaped as tag 52, the limit in seconds: 17, 18,
-// 20 to 24, 18 for the quantity, 35, else 0 and 5 numbers at the start of the room.
-fn deal(
+// What selling a lot of the instrument with this SecurityID down its bids brings, or buying it up its offers costs, now a date and time
+// shaped as tag 52, the limit in seconds: 17, 18, 20 to 24, 18 for the quantity, 35, else 0 and 5 numbers at the start of the room.
+pub fn deal(
     store: &[u64],
     buying: bool,
     id: u64,
@@ -147,18 +146,4 @@ fn deal(
     let b = backing::quote(store, buying, id, time, limit);
     let l = lot_on(b, quantity);
     tell(out, l)
-}
-
-// What selling down the bids brings.
-pub fn sell(store: &[u64], id: u64, quantity: u64, time: &[u8], limit: u64, out: &mut [u64]) -> u64
-    ensures { λ r. ⌜ Dealt false id quantity (now (time .entry)) limit (now (out .entry)) (now (store .entry)) r (now (out .exit)) ⌝ }
-{
-    deal(store, false, id, quantity, time, limit, out)
-}
-
-// What buying up the offers costs.
-pub fn buy(store: &[u64], id: u64, quantity: u64, time: &[u8], limit: u64, out: &mut [u64]) -> u64
-    ensures { λ r. ⌜ Dealt true id quantity (now (time .entry)) limit (now (out .entry)) (now (store .entry)) r (now (out .exit)) ⌝ }
-{
-    deal(store, true, id, quantity, time, limit, out)
 }

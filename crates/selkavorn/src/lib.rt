@@ -92,7 +92,7 @@ pub extern "C" fn selkavorn_sell(
 ) -> u64
     ensures { λ r. ⌜ Dealt false id quantity (now (time .entry)) limit (now (out .entry)) (now (store .entry)) r (now (out .exit)) ⌝ }
 {
-    lots::sell(store, id, quantity, time, limit, out)
+    lots::deal(store, false, id, quantity, time, limit, out)
 }
 
 // Gives what buying so many units up an instrument's offers costs, likewise.
@@ -107,5 +107,5 @@ pub extern "C" fn selkavorn_buy(
 ) -> u64
     ensures { λ r. ⌜ Dealt true id quantity (now (time .entry)) limit (now (out .entry)) (now (store .entry)) r (now (out .exit)) ⌝ }
 {
-    lots::buy(store, id, quantity, time, limit, out)
+    lots::deal(store, true, id, quantity, time, limit, out)
 }
