@@ -24,7 +24,7 @@ among-at (x ∷ xs) (suc i) h = go (eqb (x .id) (getD xs i noInst .id)) (among-a
     go true e = refl
     go false e = e
 
-look-at : (xs : List Inst) → distinct (idsOf xs) ≡ true → (i : ℕ) → i < length xs → look (getD xs i noInst .id) xs ≡ i
+pub look-at : (xs : List Inst) → distinct (idsOf xs) ≡ true → (i : ℕ) → i < length xs → look (getD xs i noInst .id) xs ≡ i
 unfolding look distinct
 look-at [] d i h = absurd (omega arith)
 look-at (x ∷ xs) d zero h = rw (eq-eqb (x .id) (x .id) refl)

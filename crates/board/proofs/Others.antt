@@ -22,7 +22,7 @@ use Rattle.board.proofs.Cases.{count-is, snap-is, take-is}
 use Rattle.board.proofs.Staying.{same-feed, same-gives, same-length, same-look}
 
 -- an instrument by its index, or none there
-by-index : (i : ℕ) (b : Board) (P : Type 0) → (i < length (b .insts) → P) → (length (b .insts) ≤ i → P) → P
+pub by-index : (i : ℕ) (b : Board) (P : Type 0) → (i < length (b .insts) → P) → (length (b .insts) ≤ i → P) → P
 by-index i b P h g = go (ltb i (length (b .insts))) refl
   where
     go : (t : Bool) → ltb i (length (b .insts)) ≡ t → P
@@ -30,7 +30,7 @@ by-index i b P h g = go (ltb i (length (b .insts))) refl
     go false e = g (ltb-false i (length (b .insts)) e)
 
 -- past the last index there is none, before a call and after it
-none-past : (i : ℕ) (b c : Board) → Same c b → length (b .insts) ≤ i → at i c ≡ at i b
+pub none-past : (i : ℕ) (b c : Board) → Same c b → length (b .insts) ≤ i → at i c ≡ at i b
 none-past i b c s h =
     List·getD-eq-default (c .insts) noInst (rw (same-length c b s) h) ∙ sym (List·getD-eq-default (b .insts) noInst h)
 

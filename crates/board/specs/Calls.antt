@@ -32,7 +32,7 @@ abbrev pub Throughout : (Call → Board → Type 0) → List Call → Board → 
 Throughout P [] b = Unit {0}
 Throughout P (c ∷ cs) b = P c b × Throughout P cs (called c b .board)
 
--- The answers of a counted message, and all those that change the store.
+-- The answers of a counted message, and all those that change the board.
 abbrev pub isCounted : ℕ → Bool
 isCounted a = eqb a 0 || (eqb a 1 || eqb a 3)
 

@@ -33,7 +33,7 @@ StaysSound =
     (depth : ℕ) (ids : List ℕ) (cs : List Call) → opens depth ids ≡ true → Throughout InRange cs (opened depth ids)
     → soundBoard (calls cs (opened depth ids)) ≡ true
 
--- Only 0, 1, 3, 4 and 10 change the store.
+-- Only 0, 1, 3, 4 and 10 change the board.
 abbrev pub RefusalsStay : Type 0
 RefusalsStay = (m : Message) (b : Board) → changes (feed m b .answer) ≡ false → feed m b .board ≡ b
 

@@ -5,18 +5,16 @@ use mathlib.Core.List.{List, [], _∷_}
 use mathlib.Core.Logic.{inl, inr}
 use Prim.Native.Nat.{ℕ, _+_, _≤_, _<_, _^_}
 use native.Mathlib.Omega.{arith}
-use lib.Bits.{or-lt, or-add-and, and-le-r}
-use lib.Dec.{eqb}
-use lib.Pow.{pow-lt}
+use lib.Bits.{or-add-and, and-le-r}
 use lib.Seq.{sets, getD-set-same}
-use borrow.Author.Tests.{eq-eqb, ne-eqb}
+use borrow.Author.Tests.{ne-eqb}
 use Rattle.book.specs.Sides.{noBook}
 use Rattle.book.proofs.Canon.{kept-no-book}
 use Rattle.cells.specs.Cells.{zeros}
 use Rattle.cells.proofs.Stores.{below-or}
 use Rattle.cells.proofs.Tables.{in-zeros}
 use Rattle.heading.specs.Marks.{marked, withMark}
-use Rattle.heading.proofs.Bits.{marked-with}
+use Rattle.heading.proofs.Bits.{marked-with, mark-own, mark-lt}
 use Rattle.board.specs.Board.{at, put, broken}
 use Rattle.store.specs.Layout.{idOf, reasonOf, bidsOf}
 use Rattle.store.specs.Meaning.{instAt, State, st, boardIn}
@@ -26,16 +24,9 @@ use Rattle.store.proofs.Decode.{inst-is, inst-marks, inst-apart, inst-other, bo
 use Rattle.store.proofs.Kept.{formed-book, formed-reason}
 use Rattle.deliver.specs.Gives.{breakS}
 
--- a mark is set: the others stay, the number stays within the instruments, and it is not 0 where it was not
-pub mark-own : (m i : ℕ) → i < 16 → marked (withMark m i) i ≡ true
-mark-own m i h = marked-with m i i h h ∙ rw (eq-eqb i i refl)
-
+-- a mark is set: the others stay, and the number is not 0 where it was not
 pub mark-other : (m i j : ℕ) → i < 16 → j < 16 → (j ≡ i → ⊥) → marked (withMark m i) j ≡ marked m j
 mark-other m i j h l n = marked-with m i j h l ∙ rw (ne-eqb i j (λ e. n (sym e)))
-
-pub mark-lt : (m i k : ℕ) → i < k → m < 2 ^ k → withMark m i < 2 ^ k
-unfolding withMark
-mark-lt m i k h l = or-lt k m (2 ^ i) l (pow-lt h)
 
 pub mark-stays : (m i : ℕ) → withMark m i ≡ 0 → m ≡ 0
 unfolding withMark

@@ -6,11 +6,11 @@ use Prim.Native.Nat.{ℕ, zero, suc, _+_, _*_, _-_, _/_, _%_, _^_, _≤_, _<_}
 use native.Mathlib.Nat.{div-one, add-assoc, add-comm, mod-lt, mod-eq-of-lt, zero-lt-suc, zero-mul, zero-add}
 use native.Mathlib.Omega.{arith}
 use lib.Dec.{ltb, eqb}
-use lib.Bits.{bitAnd, bitOr, and-shr, or-shr, and-mod, or-mod}
+use lib.Bits.{bitAnd, bitOr, and-shr, or-shr, and-mod, or-mod, or-lt}
 use lib.Count.{ones, onesIn, ones-step}
-use lib.Pow.{shr-lt, shr-shr, split, pow-pos, mod-pow-add}
+use lib.Pow.{shr-lt, shr-shr, split, pow-pos, pow-lt, mod-pow-add}
 use native.Mathlib.Numerals.{add-one}
-use borrow.Author.Tests.{ne-eqb, eqb-true, eqb-false, ltb-true}
+use borrow.Author.Tests.{ne-eqb, eq-eqb, eqb-true, eqb-false, ltb-true}
 use Rattle.heading.specs.Marks.{bit, marked, markedIn, withMark, withoutMark, allMarks}
 
 half-lt : (n k : ℕ) → n < 2 ^ suc k → n / 2 < 2 ^ k
@@ -113,6 +113,14 @@ marked-with m i j h l =
     ap (λ (x : ℕ). eqb x 1) (or-bit m (2 ^ i) j ∙ ap (bitOr (bit m j)) (eqb-true _ _ (one-bit i j h l)))
     ∙ or-one (bit m j) (eqb i j) (mod-lt (m / 2 ^ j) (zero-lt-suc 1))
 
+-- the mark that is set, and marks that stay below a power of 2
+pub mark-own : (m i : ℕ) → i < 16 → marked (withMark m i) i ≡ true
+mark-own m i h = marked-with m i i h h ∙ rw (eq-eqb i i refl)
+
+pub mark-lt : (m i k : ℕ) → i < k → m < 2 ^ k → withMark m i < 2 ^ k
+unfolding withMark
+mark-lt m i k h l = or-lt k m (2 ^ i) l (pow-lt h)
+
 pub marked-withoutMark : (m i j : ℕ) → i < 16 → j < 16 → marked (withoutMark m i) j ≡ (not (eqb i j) && marked m j)
 unfolding marked withoutMark
 marked-withoutMark m i j h l =
@@ -160,3 +168,7 @@ marks-mod m w (suc k) h =
 
 pub marks-ext : (m w k : ℕ) → m < 2 ^ k → w < 2 ^ k → ((i : ℕ) → i < k → marked m i ≡ marked w i) → m ≡ w
 marks-ext m w k a b h = sym (mod-eq-of-lt a) ∙ marks-mod m w k h ∙ mod-eq-of-lt b
+
+-- a number with no bit at or above k
+pub no-bit : (m k : ℕ) → m / 2 ^ k ≡ 0 → m < 2 ^ k
+no-bit m k e = let s : 0 * 2 ^ k + m % 2 ^ k ≡ m = rw e at (split m k) in omega (arith, s, mod-lt m (pow-pos k))

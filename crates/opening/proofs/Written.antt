@@ -1,4 +1,4 @@
--- What opening writes is the opened board's numbers.
+-- What opening writes is the opened channel's numbers.
 use mathlib.Core.Path.{_≡_, refl, sym, ap, _∙_}
 use mathlib.Core.Bool.{true}
 use mathlib.Core.List.{List, [], _∷_, _++_, map}
@@ -22,8 +22,10 @@ use Rattle.board.specs.Board.{noInst, fresh, opened}
 use Rattle.board.specs.Ranges.{within, all, idFine}
 use Rattle.board.specs.Sound.{distinct, opens}
 use Rattle.board.proofs.Tested.{four, within-true}
+use Rattle.loops.specs.Loops.{noLoop}
+use Rattle.loops.specs.Calls.{openedChannel}
 use Rattle.store.specs.Layout.{idOf, reasonOf, bidsOf, offersOf, layoutNumber}
-use Rattle.store.specs.Meaning.{headingAt, headWords, bookAt, instAt, boardOf, boardAt, loaded, written}
+use Rattle.store.specs.Meaning.{headingAt, headWords, bookAt, instAt, boardOf, boardAt, loopAt, channelAt, loaded, written}
 use Rattle.store.specs.Canon.{Formed}
 use Rattle.store.proofs.Decode.{inst-is}
 use Rattle.scan.specs.Scan.{spread}
@@ -140,6 +142,15 @@ module _ (depth : ℕ) (ids xs : List ℕ) (long : 7168 ≤ length xs) (some : 1
   unfolding boardOf tab
   board-is = ap (λ (h : Heading). boardOf h zs) heading-is ∙ rw insts-opened
 
+  -- and no loop runs
+  loop-is : loopAt zs ≡ noLoop
+  loop-is =
+      let z : (k : ℕ) → 8 ≤ k → k < 12 → getD zs k 0 ≡ 0 = λ k h l. zero-is k h (omega arith) (λ i o e. omega arith) in
+      rw (z 8 (omega arith) (omega arith), z 9 (omega arith) (omega arith), z 10 (omega arith) (omega arith), z 11 (omega arith) (omega arith))
+
+  channel-is : channelAt zs ≡ openedChannel depth ids
+  channel-is = rw (board-is, loop-is)
+
   formed-is : Formed (loaded zs)
   formed-is =
       rw heading-is (record {
@@ -150,16 +161,16 @@ module _ (depth : ℕ) (ids xs : List ℕ) (long : 7168 ≤ length xs) (some : 1
         marks = all-lt n few;
         room = omega arith;
         books = λ i h. rw (book-is i h) kept-no-book;
-        spare = λ k l u. zero-is k (below-or k 8 (λ p. absurd (u .head p)) (λ p. p)) l (λ i h e. u .record-of i h (omega arith) (omega arith));
+        spare = λ k l u. zero-is k (below-or k 8 (λ p. absurd (u .head (omega arith))) (λ p. p)) l (λ i h e. u .record-of i h (omega arith) (omega arith));
       })
 
   -- ---- the whole
 
-  pub opened-is : openedStore depth ids xs ≡ written (opened depth ids) ++ drop 7168 xs
+  pub opened-is : openedStore depth ids xs ≡ written (openedChannel depth ids) ++ drop 7168 xs
   opened-is =
-      let h : Holds zs (opened depth ids) = rw board-is at (whole zs formed-is) in
-      let a : take 7168 zs ≡ written (opened depth ids) =
-      ext-getD 0 (take 7168 zs) (written (opened depth ids)) (length-take-le 7168 zs (omega (arith, length-zs)) ∙ sym (length-written (opened depth ids))) (λ k l.
+      let h : Holds zs (openedChannel depth ids) = rw channel-is at (whole zs formed-is) in
+      let a : take 7168 zs ≡ written (openedChannel depth ids) =
+      ext-getD 0 (take 7168 zs) (written (openedChannel depth ids)) (length-take-le 7168 zs (omega (arith, length-zs)) ∙ sym (length-written (openedChannel depth ids))) (λ k l.
       let p : k < 7168 = omega (arith, length-take-le 7168 zs (omega (arith, length-zs))) in
       getD-take 7168 zs k 0 p ∙ h k p) in
       let b : drop 7168 zs ≡ drop 7168 xs =

@@ -5,9 +5,9 @@ ghost use mathlib.Core.Bool.{true};
 ghost use mathlib.Core.List.{_++_};
 ghost use Prim.Native.Nat.{_≤_};
 ghost use lib.ListN.{length, drop};
-ghost use Rattle.board.specs.Board.{opened};
 ghost use Rattle.board.specs.Ranges.{all, idFine};
 ghost use Rattle.board.specs.Sound.{opens};
+ghost use Rattle.loops.specs.Calls.{openedChannel};
 ghost use Rattle.store.specs.Layout.{storeSize};
 ghost use Rattle.store.specs.Meaning.{written};
 ghost use Rattle.opening.specs.Opening.{Opened};
@@ -75,10 +75,10 @@ fn put_ids(store: &mut [u64], ids: &[u64])
     }
 }
 
-// The opened board's numbers, all 7,168 of them.
+// The opened channel's numbers, all 7,168 of them.
 fn write(store: &mut [u64], depth: u64, ids: &[u64])
     requires { ⌜ (storeSize ≤ length (now store)) × (opens depth (now ids) ≡ true) ⌝ }
-    ensures { λ _. ⌜ now (store .exit) ≡ written (opened depth (now (ids .entry))) ++ drop storeSize (now (store .entry)) ⌝ }
+    ensures { λ _. ⌜ now (store .exit) ≡ written (openedChannel depth (now (ids .entry))) ++ drop storeSize (now (store .entry)) ⌝ }
 {
     let h = fresh(depth, ids.len());
     cells::zero_run(store, 0, store::STORE);

@@ -1,4 +1,5 @@
 pub mod Recovery
+pub mod Loops
 pub mod Hut
 pub mod Marked
 pub mod Heard

@@ -4,7 +4,6 @@ use mathlib.Core.Bool.{Bool, true, false, cond}
 use mathlib.Core.List.{List, [], _∷_, _++_}
 use Prim.Native.Nat.{ℕ, _≤_}
 use native.Mathlib.Omega.{arith}
-use lib.Dec.{leb}
 use lib.IntN.{ℤ, pos}
 use lib.ListN.{length, take}
 use lib.Seq.{sets}
@@ -19,12 +18,16 @@ use Rattle.book.specs.declared.Entry.{Entry}
 use Rattle.cells.proofs.Stores.{take-sets}
 use Rattle.sums.specs.Sums.{fits}
 use Rattle.proceeds.specs.Lots.{unitsOf, leftOf, valueOf, sumOver, sumAfter, allFit, lotOf}
-use Rattle.board.specs.Board.{Board, anyWaiting, look}
+use Rattle.board.specs.Board.{anyWaiting, look}
 use Rattle.board.specs.Count.{joining, hit, give, gives, count, number}
 use Rattle.board.specs.Snapshot.{entriesOf, run, after, snap}
 use Rattle.board.specs.Snapshot as snapshot
 use Rattle.board.specs.Feed.{feed}
 use Rattle.board.specs.Calls.{inst}
+use Rattle.loops.specs.Loops.{inRow, isWhole}
+use Rattle.loops.specs.Ending.{ended}
+use Rattle.loops.specs.Channel as loops
+use Rattle.loops.specs.Channel.{Channel}
 use Rattle.store.specs.Meaning.{boardAt}
 use Rattle.sound.specs.Sound.{sound}
 use Rattle.opening.specs.Opening.{openAnswer, openStore}
@@ -197,10 +200,11 @@ pub lots-beside-quotes : LotsBesideQuotes
 lots-beside-quotes buying id n now limit room out xs l k = beside buying id n now limit room out xs l k
 
 -- ---- the hut that deals
-module _ (depth : ℕ) (xs : List ℕ) (b : Board) (h : Holds depth xs b) (buying : Bool) (id n : ℕ) (now : List ℕ) (limit : ℕ) where
-  of-holds : (q : Quoted) → quoteOf id now limit b ≡ q → lottedOf buying id n now limit xs ≡ onQuote q n (ifQuoted (λ p. sideFor buying (inst id b .book)) [] q)
+module _ (depth : ℕ) (xs : List ℕ) (c : Channel) (h : Holds depth xs c) (buying : Bool) (id n : ℕ) (now : List ℕ) (limit : ℕ) where
+  of-holds : (q : Quoted) → quoteOf id now limit (c .board) ≡ q
+      → lottedOf buying id n now limit xs ≡ onQuote q n (ifQuoted (λ p. sideFor buying (inst id (c .board) .book)) [] q)
   unfolding lottedOf quotedOf behind
-  of-holds q e = rw (h .sound, h .same, e)
+  of-holds q e = let b = ap (λ (k : Channel). k .board) (h .same) in rw (h .sound, b, e)
 
 abbrev heard-at : ℕ
 heard-at = 64968180542000
@@ -209,8 +213,8 @@ heard-words : momentWords heard-at ≡ 20250103 ∷ 130002000 ∷ []
 unfolding timeNumber dayOf isDate leap months daysIn daysTo yearDays daysBefore
 heard-words = ap (λ (d : ℕ). d ∷ timeNumber (timePart heard-at) ∷ []) (date-back 20250103 (omega arith) refl)
 
-hut-quote : quoteOf 7 atFive 30 end ≡ Quoted.Is (record { number = 3; heard = heard-at; bid = Top.Held bid-2; offer = Top.Held offer-3 })
-unfolding applied afterAction afterNew afterChange anyWaiting look joining hit give gives count number entriesOf run after snapshot.take snap feed quoteOf ageOf millis momentOf dateOf timeOf clockOf minutesOf twoOf digitsOf isDate dayOf leap months daysIn daysTo yearDays daysBefore
+hut-quote : quoteOf 7 atFive 30 (end .board) ≡ Quoted.Is (record { number = 3; heard = heard-at; bid = Top.Held bid-2; offer = Top.Held offer-3 })
+unfolding applied afterAction afterNew afterChange anyWaiting look joining hit give gives count number entriesOf run after snapshot.take snap feed loops.given inRow isWhole ended quoteOf ageOf millis momentOf dateOf timeOf clockOf minutesOf twoOf digitsOf isDate dayOf leap months daysIn daysTo yearDays daysBefore
 hut-quote = refl
 
 -- what 6 units bring and cost

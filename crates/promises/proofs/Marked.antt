@@ -15,11 +15,15 @@ use Rattle.orderid.specs.OrderIds.{isId}
 use Rattle.book.specs.Rules.{leaves, breach, applied, afterAction, afterNew, afterChange, afterThru, afterFrom}
 use Rattle.book.specs.declared.Entry.{Entry}
 use Rattle.message.specs.Message.{Message, snapshot}
-use Rattle.board.specs.Board.{Board, Out, anyWaiting, look}
+use Rattle.board.specs.Board.{anyWaiting, look}
 use Rattle.board.specs.Count.{joining, hit, give, gives, count, number}
 use Rattle.board.specs.Snapshot.{entriesOf, run, after, take, snap}
 use Rattle.board.specs.Feed.{feed}
 use Rattle.board.specs.Calls.{inst}
+use Rattle.heading.specs.Marks.{marked, withMark}
+use Rattle.loops.specs.Loops.{withName, lower, inRow, isWhole}
+use Rattle.loops.specs.Ending.{atEnd, ends, ended}
+use Rattle.loops.specs.Channel.{Channel, Reply, given}
 use Rattle.quote.specs.Quotes.{quoteOf}
 use Rattle.opening.specs.Opening.{openAnswer, openStore}
 use Rattle.ask.specs.Ask.{quoteNumber, quoteAnswer}
@@ -62,92 +66,92 @@ unfolding afterNew
 m10-past l x h = rw h
 
 -- ---- M11 and M12: the boards that the messages leave
-abbrev after-1 : Out
-after-1 = feed first-says zero
+abbrev after-1 : Reply
+after-1 = given first-says zero
 
-abbrev after-3 : Out
-after-3 = feed third-says (after-1 .board)
+abbrev after-3 : Reply
+after-3 = given third-says (after-1 .channel)
 
-abbrev after-2 : Out
-after-2 = feed second-says (after-3 .board)
+abbrev after-2 : Reply
+after-2 = given second-says (after-3 .channel)
 
-fed-as : (bytes : List ℕ) (m : Message) (b c : Board) → b ≡ c → c .depth ≡ 0 → messageIn 0 bytes ≡ m → fed bytes b ≡ feed m c
+fed-as : (bytes : List ℕ) (m : Message) (b c : Channel) → b ≡ c → c .board .depth ≡ 0 → messageIn 0 bytes ≡ m → fed bytes b ≡ given m c
 unfolding fed
 fed-as bytes m b c q k h = rw (q, k, h)
 
-board-of : {o p : Out} → o ≡ p → o .board ≡ p .board
-board-of q = ap (λ (x : Out). x .board) q
+channel-of : {o p : Reply} → o ≡ p → o .channel ≡ p .channel
+channel-of q = ap (λ (x : Reply). x .channel) q
 
 first-fed : fed first zero ≡ after-1
 first-fed = fed-as first first-says zero zero refl refl read.says-first
 
 -- the depth kind stays 0
-kind-1 : after-1 .board .depth ≡ 0
-unfolding applied afterAction afterNew afterChange anyWaiting look joining hit give gives count number feed
+kind-1 : after-1 .channel .board .depth ≡ 0
+unfolding applied afterAction afterNew afterChange anyWaiting look joining hit give gives count number feed given
 kind-1 = refl
 
-kind-3 : after-3 .board .depth ≡ 0
-unfolding applied afterAction afterNew afterChange anyWaiting look joining hit give gives count number feed
+kind-3 : after-3 .channel .board .depth ≡ 0
+unfolding applied afterAction afterNew afterChange anyWaiting look joining hit give gives count number feed given
 kind-3 = refl
 
-kind-2 : after-2 .board .depth ≡ 0
-unfolding applied afterAction afterNew afterChange anyWaiting look joining hit give gives count number feed
+kind-2 : after-2 .channel .board .depth ≡ 0
+unfolding applied afterAction afterNew afterChange anyWaiting look joining hit give gives count number feed given
 kind-2 = refl
 
 third-fed : fed third one ≡ after-3
-third-fed = fed-as third third-says one (after-1 .board) (board-of first-fed) kind-1 read.says-third
+third-fed = fed-as third third-says one (after-1 .channel) (channel-of first-fed) kind-1 read.says-third
 
 second-fed : fed second two ≡ after-2
-second-fed = fed-as second second-says two (after-3 .board) (board-of third-fed) kind-3 read.says-second
+second-fed = fed-as second second-says two (after-3 .channel) (channel-of third-fed) kind-3 read.says-second
 
 m11-first : fed first zero .answer ≡ 0
-unfolding applied afterAction afterNew afterChange anyWaiting look joining hit give gives count number feed
-m11-first = ap (λ (o : Out). o .answer) first-fed
+unfolding applied afterAction afterNew afterChange anyWaiting look joining hit give gives count number feed given
+m11-first = ap (λ (o : Reply). o .answer) first-fed
 
 m11-third : fed third one .answer ≡ 1
-unfolding applied afterAction afterNew afterChange anyWaiting look joining hit give gives count number feed
-m11-third = ap (λ (o : Out). o .answer) third-fed
+unfolding applied afterAction afterNew afterChange anyWaiting look joining hit give gives count number feed given
+m11-third = ap (λ (o : Reply). o .answer) third-fed
 
 m11-second : fed second two .answer ≡ 2
-unfolding applied afterAction afterNew afterChange anyWaiting look joining hit give gives count number feed
-m11-second = ap (λ (o : Out). o .answer) second-fed
+unfolding applied afterAction afterNew afterChange anyWaiting look joining hit give gives count number feed given
+m11-second = ap (λ (o : Reply). o .answer) second-fed
 
-m11-base : three .B ≡ 2
-unfolding applied afterAction afterNew afterChange anyWaiting look joining hit give gives count number feed
-m11-base = ap (λ (b : Board). b .B) (board-of second-fed)
+m11-base : three .board .B ≡ 2
+unfolding applied afterAction afterNew afterChange anyWaiting look joining hit give gives count number feed given
+m11-base = ap (λ (c : Channel). c .board .B) (channel-of second-fed)
 
-m11-last : three .H ≡ 3
-unfolding applied afterAction afterNew afterChange anyWaiting look joining hit give gives count number feed
-m11-last = ap (λ (b : Board). b .H) (board-of second-fed)
+m11-last : three .board .H ≡ 3
+unfolding applied afterAction afterNew afterChange anyWaiting look joining hit give gives count number feed given
+m11-last = ap (λ (c : Channel). c .board .H) (channel-of second-fed)
 
-shown-fed : (bytes : List ℕ) (m : Message) → messageIn 0 bytes ≡ m → fed bytes three ≡ feed m (after-2 .board)
-shown-fed bytes m h = fed-as bytes m three (after-2 .board) (board-of second-fed) kind-2 h
+shown-fed : (bytes : List ℕ) (m : Message) → messageIn 0 bytes ≡ m → fed bytes three ≡ given m (after-2 .channel)
+shown-fed bytes m h = fed-as bytes m three (after-2 .channel) (channel-of second-fed) kind-2 h
 
 m12-below : fed at-1 three .answer ≡ 7
-unfolding applied afterAction afterNew afterChange anyWaiting look joining hit give gives count number entriesOf run after take snap feed
-m12-below = ap (λ (o : Out). o .answer) (shown-fed at-1 (shows 1 bid-1) read.says-at-1)
+unfolding applied afterAction afterNew afterChange anyWaiting look joining hit give gives count number entriesOf run after take snap feed given inRow isWhole withName lower atEnd ends ended marked withMark
+m12-below = ap (λ (o : Reply). o .answer) (shown-fed at-1 (shows 1 bid-1) read.says-at-1)
 
 m12-above : fed at-4 three .answer ≡ 8
-unfolding applied afterAction afterNew afterChange anyWaiting look joining hit give gives count number entriesOf run after take snap feed
-m12-above = ap (λ (o : Out). o .answer) (shown-fed at-4 (shows 4 bid-2) read.says-at-4)
+unfolding applied afterAction afterNew afterChange anyWaiting look joining hit give gives count number entriesOf run after take snap feed given inRow isWhole withName lower atEnd ends ended marked withMark
+m12-above = ap (λ (o : Reply). o .answer) (shown-fed at-4 (shows 4 bid-2) read.says-at-4)
 
 m12-taken : fed at-2 three .answer ≡ 4
-unfolding applied afterAction afterNew afterChange anyWaiting look joining hit give gives count number entriesOf run after take snap feed
-m12-taken = ap (λ (o : Out). o .answer) (shown-fed at-2 (shows 2 bid-2) read.says-at-2)
+unfolding applied afterAction afterNew afterChange anyWaiting look joining hit give gives count number entriesOf run after take snap feed given inRow isWhole withName lower atEnd ends ended marked withMark
+m12-taken = ap (λ (o : Reply). o .answer) (shown-fed at-2 (shows 2 bid-2) read.says-at-2)
 
-m12-book : inst 7 (fed at-2 three .board) .book ≡ record { bids = bid-2 ∷ []; offers = offer-3 ∷ [] }
-unfolding applied afterAction afterNew afterChange anyWaiting look joining hit give gives count number entriesOf run after take snap feed
-m12-book = ap (λ (o : Out). inst 7 (o .board) .book) (shown-fed at-2 (shows 2 bid-2) read.says-at-2)
+m12-book : inst 7 (fed at-2 three .channel .board) .book ≡ record { bids = bid-2 ∷ []; offers = offer-3 ∷ [] }
+unfolding applied afterAction afterNew afterChange anyWaiting look joining hit give gives count number entriesOf run after take snap feed given inRow isWhole withName lower atEnd ends ended marked withMark
+m12-book = ap (λ (o : Reply). inst 7 (o .channel .board) .book) (shown-fed at-2 (shows 2 bid-2) read.says-at-2)
 
 -- ---- M13 and M14: the store's boards once it took the empty book, and once it heard message 1
 abbrev empty-says : Message
 empty-says = snapshot (record { number = 1; heard = 64968180540000; id = 7; last = 0; loops = 1 }) []
 
-abbrev took : Board
-took = feed empty-says zero .board
+abbrev took : Channel
+took = given empty-says zero .channel
 
-abbrev heard : Board
-heard = feed first-says took .board
+abbrev heard : Channel
+heard = given first-says took .channel
 
 module _ (xs : List ℕ) (e : openAnswer 0 (7 ∷ []) xs ≡ 0) where
   holds-took : Holds 0 (tookEmpty xs) took
@@ -158,17 +162,17 @@ module _ (xs : List ℕ) (e : openAnswer 0 (7 ∷ []) xs ≡ 0) where
 
 -- the quote of a store is its board's
 abbrev answered : List ℕ → ℕ
-answered time = quoteNumber (quoteOf 7 (onTheDay time) 30 heard)
+answered time = quoteNumber (quoteOf 7 (onTheDay time) 30 (heard .board))
 
 quoted-as : (n : ℕ) (time : List ℕ) → answered time ≡ n → QuotedWith n time
 unfolding quoteAnswer
-quoted-as n time q xs room e l = let h = holds-heard xs e in rw (h .sound, le-leb 17 (length room) l, h .same) q
+quoted-as n time q xs room e l = let h = holds-heard xs e in let b = ap (λ (c : Channel). c .board) (h .same) in rw (h .sound, le-leb 17 (length room) l, b) q
 
 m13 :
     (answered (49 ∷ 51 ∷ 58 ∷ 48 ∷ 48 ∷ 58 ∷ 51 ∷ 48 ∷ 46 ∷ 48 ∷ 48 ∷ 48 ∷ []) ≡ 0)
     × (answered (49 ∷ 51 ∷ 58 ∷ 48 ∷ 48 ∷ 58 ∷ 51 ∷ 48 ∷ 46 ∷ 48 ∷ 48 ∷ 49 ∷ []) ≡ 24)
     × (answered (49 ∷ 50 ∷ 58 ∷ 53 ∷ 57 ∷ 58 ∷ 53 ∷ 57 ∷ 46 ∷ 57 ∷ 57 ∷ 57 ∷ []) ≡ 23)
-unfolding applied afterAction afterNew anyWaiting look joining hit give gives count number entriesOf run after take snap feed quoteOf ageOf millis momentOf dateOf timeOf clockOf minutesOf twoOf digitsOf isDate dayOf leap months daysIn daysTo yearDays daysBefore
+unfolding applied afterAction afterNew anyWaiting look joining hit give gives count number entriesOf run after take snap feed quoteOf ageOf millis momentOf dateOf timeOf clockOf minutesOf twoOf digitsOf isDate dayOf leap months daysIn daysTo yearDays daysBefore given inRow isWhole withName lower atEnd ends ended marked withMark
 m13 = (refl, refl, refl)
 
 one-is : momentOf atOne ≡ Number.Is 64968180540000
@@ -176,19 +180,20 @@ unfolding momentOf dateOf timeOf clockOf minutesOf twoOf digitsOf isDate dayOf l
 one-is = refl
 
 m13-heard : HeardAtOne
-unfolding applied afterAction afterNew anyWaiting look joining hit give gives count number entriesOf run after take snap feed
-m13-heard xs e = one-is ∙ sym (ap (λ (b : Board). Number.Is (b .heard)) (holds-heard xs e .same))
+unfolding applied afterAction afterNew anyWaiting look joining hit give gives count number entriesOf run after take snap feed given inRow isWhole withName lower atEnd ends ended marked withMark
+m13-heard xs e = one-is ∙ sym (ap (λ (c : Channel). Number.Is (c .board .heard)) (holds-heard xs e .same))
 
 -- the page of that board is the message
-page-is : pageFor (Number.Is 64968180540000) 7 (83 ∷ 72 ∷ 69 ∷ 68 ∷ []) (89 ∷ 65 ∷ 82 ∷ 68 ∷ []) 1 1 took ≡ message empty-book
-unfolding applied afterAction afterNew anyWaiting look joining hit give gives count number entriesOf run after take snap feed argumentsFine isId
+page-is : pageFor (Number.Is 64968180540000) 7 (83 ∷ 72 ∷ 69 ∷ 68 ∷ []) (89 ∷ 65 ∷ 82 ∷ 68 ∷ []) 1 1 (took .board) ≡ message empty-book
+unfolding applied afterAction afterNew anyWaiting look joining hit give gives count number entriesOf run after take snap feed argumentsFine isId given inRow isWhole withName lower atEnd ends ended marked withMark
 page-is = ap message the-message
 
 m14-written : Writes empty-book
 unfolding sendOut sentPage outAfter
 m14-written xs room e l =
     let h = holds-took xs e in
-    rw (h .sound, one-is, h .same, page-is, le-leb 110 (length room) l)
+    let b = ap (λ (c : Channel). c .board) (h .same) in
+    rw (h .sound, one-is, b, page-is, le-leb 110 (length room) l)
 
 pub marked-cases : MarkedCases
 marked-cases =

@@ -12,8 +12,8 @@ use lib.Seq.{sets}
 use Rattle.digits.specs.declared.Number.{Number}
 use Rattle.moment.specs.Moments.{momentOf}
 use Rattle.moment.specs.Ages.{ageOf}
-use Rattle.board.specs.Board.{Board, opened, look, at}
-use Rattle.board.specs.Calls.{calls, inst}
+use Rattle.board.specs.Board.{Board, look, at}
+use Rattle.board.specs.Calls.{Call, inst}
 use Rattle.board.specs.Ranges.{idFine}
 use Rattle.store.specs.Meaning.{boardAt}
 use Rattle.sound.specs.Sound.{sound}
@@ -21,12 +21,17 @@ use Rattle.opening.specs.Opening.{openAnswer, openStore}
 use Rattle.quote.specs.Quotes.{mostLimit, given, quoteAt, atNow, quoteOf}
 use Rattle.quote.specs.declared.Quoted.{Quoted}
 use Rattle.ask.specs.Ask.{quoteSize, quoteNumber, quoteValues, quoteAnswer, quoteOut}
-use Rattle.board.specs.Demand.{NumberedFromOne, NeverBreaks, bookAt, Right}
-use Rattle.board.proofs.Staying.{same-calls}
-use Rattle.promises.specs.Acts.{Act, lefts, Along}
+use Rattle.board.specs.Demand.{NumberedFromOne, NeverBreaks, bookAt}
+use Rattle.loops.specs.Channel.{Channel}
+use Rattle.loops.specs.Calls.{calls, openedChannel}
+use Rattle.loops.specs.Demand.{RightBy}
+use Rattle.loops.proofs.Demand.{opened-channel, right-through}
+use Rattle.loops.proofs.Lowering.{lowers, lowers-is}
+use Rattle.opening.proofs.Laws.{opens-is}
+use Rattle.promises.specs.Acts.{Act, lefts, Along, callOf}
 use Rattle.promises.specs.Recovery.{readIn, Supposed}
 use Rattle.promises.specs.Quotes.{AsOf, Dated, QuotesAreDated}
-use Rattle.promises.proofs.Recovery.{callOf, along, ends, starts, right-of, recovers-stream}
+use Rattle.promises.proofs.Recovery.{Holds, along, holds, starts, ranged, right-of, recovers-stream}
 use Rattle.promises.proofs.Heard.{Heard, heard-after}
 
 -- ---- what an answer 0 says
@@ -92,17 +97,30 @@ module _ (depth : ℕ) (stream : List (List ℕ)) (n : NumberedFromOne (readIn d
   abbrev pub end : Board
   end = boardAt (lefts cs (openStore depth ids xs))
 
-  is-end : end ≡ calls (map (callOf depth) cs) (opened depth ids)
-  is-end = ends depth cs (openStore depth ids xs) (opened depth ids) (starts depth ids xs e)
+  -- and the calls on a channel that were made
+  abbrev made : List Call
+  made = map (callOf depth) cs
+
+  end-holds : Holds depth (lefts cs (openStore depth ids xs)) (calls made (openedChannel depth ids))
+  end-holds = holds depth cs (openStore depth ids xs) (openedChannel depth ids) (starts depth ids xs e)
+
+  is-end : end ≡ calls made (openedChannel depth ids) .board
+  is-end = ap (λ (c : Channel). c .board) (end-holds .same)
 
   pub end-kind : end .depth ≡ depth
-  end-kind = ap (λ (b : Board). b .depth) is-end ∙ same-calls (map (callOf depth) cs) (opened depth ids) .depth
+  end-kind = ap (λ (b : Board). b .depth) is-end ∙ end-holds .kind
 
+  -- as calls on the board, the loops' ends among them
   heard : Heard (readIn depth stream) end
   heard =
+      let ms = readIn depth stream in
+      let c = openedChannel depth ids in
       let h = starts depth ids xs e in
-      let r = along depth (Supposed depth stream d) (Right (readIn depth stream) d) (right-of depth stream d) cs (openStore depth ids xs) (opened depth ids) h p in
-      rw is-end (heard-after (readIn depth stream) n d depth ids (map (callOf depth) cs) r)
+      let o = opened-channel depth ids (opens-is depth ids xs e) in
+      let f = ranged depth cs (openStore depth ids xs) c h in
+      let r = along depth (Supposed depth stream d) (RightBy ms d) (right-of depth stream d) cs (openStore depth ids xs) c h p in
+      let b = lowers-is made c o f in
+      rw (is-end, sym b) (heard-after ms n d depth ids (lowers made c) (right-through ms d made c o f r))
 
   module _ (q : Quoted) (g : Given (look d (end .insts)) now limit end q) where
     pub counted : (k : ℕ) × (end .H ≡ suc k)

@@ -8,13 +8,15 @@ use lib.Dec.{leb, eqb}
 use lib.ListN.{length, drop}
 use lib.Seq.{sets}
 use borrow.Author.Tests.{eqb-true}
-use Rattle.board.specs.Board.{opened, look, at}
-use Rattle.board.specs.Calls.{changes}
+use Rattle.board.specs.Board.{look, at}
+use Rattle.board.specs.Ranges.{within}
 use Rattle.board.specs.Sound.{opens}
+use Rattle.loops.specs.Calls.{openedChannel}
+use Rattle.loops.specs.Laws.{touches}
 use Rattle.store.specs.Layout.{storeSize}
 use Rattle.store.specs.Meaning.{boardAt, written}
 use Rattle.opening.specs.Opening.{openAnswer, openStore}
-use Rattle.feed.proofs.Laws.{refused-stays}
+use Rattle.feed.proofs.Laws.{refused-stays, refused-loops}
 use Rattle.writer.specs.Writing.{writtenOf, outAfter}
 use Rattle.quote.specs.Quotes.{quoteOf}
 use Rattle.ask.specs.Ask.{roomAfter, quoteValues, quoteAnswer, quoteOut, stateWords, stateAnswer, stateOut}
@@ -34,7 +36,7 @@ open-stays : (depth : ℕ) (ids xs : List ℕ) → isDone (openAnswer depth ids 
 unfolding openAnswer openStore
 open-stays depth ids xs = go (leb storeSize (length xs)) (opens depth ids)
   where
-    go : (s t : Bool) → isDone (cond s (cond t 0 18) 17 % 256) ≡ false → cond s (cond t (written (opened depth ids) ++ drop storeSize xs) xs) xs ≡ xs
+    go : (s t : Bool) → isDone (cond s (cond t 0 18) 17 % 256) ≡ false → cond s (cond t (written (openedChannel depth ids) ++ drop storeSize xs) xs) xs ≡ xs
     go true true h = absurd (true≢false h)
     go true false h = refl
     go false t h = refl
@@ -93,7 +95,8 @@ pub refusals-stay : RefusalsStay
 refusals-stay =
     record {
       opening = λ depth ids xs r ys o h. o .store ∙ open-stays depth ids xs (of-answer isDone r _ (o .answer) h);
-      feeding = λ bytes xs r ys o h. o .store ∙ refused-stays bytes xs (of-answer changes r _ (o .answer) h);
+      feeding = λ bytes xs r ys o h. o .store ∙ refused-stays bytes xs (of-answer touches r _ (o .answer) h);
+      looping = λ bytes xs r ys o h. rw (o .store) (refused-loops bytes xs (ap (λ (n : ℕ). within 5 9 (n % 256)) (sym (o .answer)) ∙ h));
       quoting = λ id now limit room xs r ys o h. o .out ∙ quote-stays id now limit room xs (of-answer isDone r _ (o .answer) h);
       writing = λ id sender target k m time room xs r ys o h. o .out ∙ write-stays id sender target k m time room xs (of-answer isDone r _ (o .answer) h);
       stating = λ id room xs r ys o h. o .out ∙ state-stays id room xs (of-answer isDone r _ (o .answer) h);

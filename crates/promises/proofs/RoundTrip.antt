@@ -2,7 +2,7 @@
 use mathlib.Core.Path.{_≡_, refl, sym, ap, _∙_, subst}
 use mathlib.Core.Bool.{Bool, true, false, cond, _&&_}
 use mathlib.Core.List.{List}
-use Prim.Native.Nat.{ℕ, _*_, _<_}
+use Prim.Native.Nat.{ℕ, _*_, _≤_, _<_}
 use native.Mathlib.Omega.{arith}
 use borrow.Author.Tests.{leb-true, leb-false}
 use lib.Dec.{leb}
@@ -12,14 +12,19 @@ use Rattle.digits.proofs.Width.{both}
 use Rattle.moment.specs.Moments.{momentOf}
 use Rattle.moment.proofs.Bounds.{moment-lt}
 use Rattle.orderid.specs.OrderIds.{isId}
-use Rattle.board.specs.Board.{Board, look, at, noInst}
-use Rattle.message.specs.Message.{Message}
+use Rattle.book.specs.Rules.{Lists}
+use Rattle.book.specs.declared.Update.{Update}
+use Rattle.board.specs.Board.{Inst, Board, out, look, at, noInst}
+use Rattle.message.specs.Message.{Message, Head, snapshot}
 use Rattle.board.specs.Feed.{feed}
 use Rattle.board.specs.Ranges.{idFine}
 use Rattle.board.specs.Sound.{SoundInst}
 use Rattle.board.proofs.Each.{each-at}
+use Rattle.board.proofs.Staying.{same-feed}
+use Rattle.loops.specs.Channel.{Channel, given}
+use Rattle.loops.proofs.Laws.{own-stays}
 use Rattle.fields.specs.Messages.{messageIn}
-use Rattle.store.specs.Meaning.{boardAt}
+use Rattle.store.specs.Meaning.{boardAt, channelAt}
 use Rattle.sound.specs.Sound.{sound}
 use Rattle.sound.proofs.Laws.{sound-is-canon}
 use Rattle.snapshot.specs.Snapshot.{snapshotBytes}
@@ -27,7 +32,7 @@ use Rattle.snapshot.specs.Writing.{letter}
 use Rattle.writer.specs.Writing.{writtenOf, outAfter}
 use Rattle.writer.proofs.Promise.{starts}
 use Rattle.feed.specs.Feeding.{fed}
-use Rattle.feed.proofs.Laws.{feed-is-board}
+use Rattle.feed.proofs.Laws.{feed-is-channel}
 use Rattle.send.specs.Send.{message, refusal, mostLoop, argumentsFine, pageAt, pageFor, sentPage, writtenNumber, pageAnswer, pageOut, sendAnswer, sendOut}
 use Rattle.roundtrip.specs.ReadBack.{InRange}
 use Rattle.roundtrip.specs.TakenBack.{Taken}
@@ -36,6 +41,20 @@ use Rattle.roundtrip.proofs.RoundTrip.{read-back}
 use Rattle.roundtrip.proofs.TakenBack.{taken-back}
 use Rattle.promises.specs.RoundTrip.{SameBook, RoundTrip}
 use Rattle.book.specs.Ids.{mostId}
+
+-- ---- what is taken stays taken at the end of a loop
+
+taken-looped : (book : Lists) (h : Head) (us : List Update) (c : Channel) → length (c .board .insts) ≤ 16
+    → Taken (h .id) book (feed (snapshot h us) (c .board))
+    → Taken (h .id) book (out (given (snapshot h us) c .answer) (given (snapshot h us) c .channel .board))
+unfolding given
+taken-looped book h us c few t =
+    let o = own-stays h (c .loop) (c .board) (feed (snapshot h us) (c .board) .board) (same-feed (snapshot h us) (c .board)) few in
+    record {
+      answer = t .answer;
+      live = ap (λ (x : Inst). x .waiting) o ∙ t .live;
+      book = ap (λ (x : Inst). x .book) o ∙ t .book;
+    }
 
 -- ---- a page that is a message
 module _ (id : ℕ) (sender target : List ℕ) (k m : ℕ) (time xs : List ℕ) where
@@ -91,13 +110,15 @@ module _ (id : ℕ) (sender target : List ℕ) (k m : ℕ) (time xs : List ℕ) 
         message = ap (messageIn (b .depth)) (sym (p .same)) ∙ t .message;
         entries = t .book;
         sized = rw (sym (p .same)) (page-sized (b .depth) l id (b .H) (at i b .book) r);
-        taken = λ ys q kind w. record {
-          taken = subst
-              (λ (x : Message). Taken id (at i b .book) (feed x (boardAt ys)))
-              (sym (ap (λ (d : ℕ). messageIn d bytes) kind ∙ ap (messageIn (b .depth)) (sym (p .same))))
-              (taken-back (b .depth) l id (b .H) (at i b .book) r (boardAt ys) w);
-          after = feed-is-board bytes ys q;
-        };
+        taken = λ ys q kind w.
+            let e : messageIn (boardAt ys .depth) bytes ≡ messageIn (b .depth) (snapshotBytes (b .depth) l id (b .H) (at i b .book)) =
+            ap (λ (d : ℕ). messageIn d bytes) kind ∙ ap (messageIn (b .depth)) (sym (p .same)) in
+            record {
+              taken = subst (λ (x : Message). Taken id (at i b .book) (out (given x (channelAt ys) .answer) (given x (channelAt ys) .channel .board))) (sym (e ∙ t .message))
+                  (taken-looped (at i b .book) _ _ (channelAt ys) (sound-is-canon ys q .1 .few)
+                  (subst (λ (x : Message). Taken id (at i b .book) (feed x (boardAt ys))) (t .message) (taken-back (b .depth) l id (b .H) (at i b .book) r (boardAt ys) w)));
+              after = feed-is-channel bytes ys q;
+            };
       }
 
   -- ---- an answer 0 with a length is a message

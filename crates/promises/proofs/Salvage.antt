@@ -1,14 +1,14 @@
 -- What the walk of a recording promises of the other calls. Assumes nothing.
 use mathlib.Core.Path.{_≡_, refl, sym, ap, _∙_}
 use mathlib.Core.Bool.{Bool, true, false, cond, not, false≢true}
-use mathlib.Core.List.{List, [], _∷_, _++_}
+use mathlib.Core.List.{List, [], _∷_}
 use mathlib.Core.Option.{Option, none, some}
-use Prim.Native.Nat.{ℕ, _+_, _*_, _%_, _≤_, _<_}
+use Prim.Native.Nat.{ℕ, _+_, _*_, _≤_, _<_}
 use native.Mathlib.Omega.{arith}
 use native.Mathlib.Nat.{mod-eq-of-lt, add-mul-mod-self-left}
 use borrow.Author.Tests.{leb-true, ne-eqb}
 use lib.Dec.{leb}
-use lib.ListN.{length, take, drop}
+use lib.ListN.{take, drop}
 use Rattle.digits.proofs.Width.{both}
 use Rattle.frame.specs.Frames.{frameOf, bodyOf}
 use Rattle.frame.specs.declared.Framed.{Framed}
@@ -22,7 +22,8 @@ use Rattle.fields.proofs.Unbroken.{isRead, typed-well}
 use Rattle.stretch.specs.Stretches.{passes}
 use Rattle.salvage.specs.Pieces.{Piece, message, passed, pieces, Messages}
 use Rattle.salvage.proofs.Laws.{walk-is-whole, whole-taken}
-use Rattle.store.specs.Meaning.{boardAt}
+use Rattle.loops.proofs.Laws.{given-answer}
+use Rattle.store.specs.Meaning.{boardAt, channelAt}
 use Rattle.sound.specs.Sound.{sound}
 use Rattle.feed.specs.Feeding.{fed, feedAnswer}
 use Rattle.send.specs.Send.{sendAnswer, sendOut}
@@ -59,8 +60,9 @@ passing : (bytes xs : List ℕ) → sound xs ≡ true → passes (frameOf bytes)
 unfolding feedAnswer fed messageIn
 passing bytes xs h =
     let b = boardAt xs in
-    let o = fed bytes b in
-    rw (h, add-mul-mod-self-left (o .answer) 256 (waitingIn (o .board .insts))) (framed-alike (b .depth) bytes (frameOf bytes) b)
+    let o = fed bytes (channelAt xs) in
+    rw (h, add-mul-mod-self-left (o .answer) 256 (waitingIn (o .channel .board .insts)), given-answer (framedAs (b .depth) bytes (frameOf bytes)) (channelAt xs))
+    (framed-alike (b .depth) bytes (frameOf bytes) b)
 
 -- ---- the messages of a walk
 never : (bytes xs : List ℕ) → passes (frameOf bytes) ≡ true → refusedBy (feedAnswer bytes xs) ≡ false
@@ -71,8 +73,8 @@ never bytes xs h = go (sound xs) refl
     off true e = absurd (false≢true (sym e))
     off false e = refl
 
-    go : (z : Bool) → sound xs ≡ z → refusedBy (cond z (fed bytes (boardAt xs) .answer + 256 * waitingIn (fed bytes (boardAt xs) .board .insts)) 17) ≡ false
-    go true q = off (refusedBy (fed bytes (boardAt xs) .answer + 256 * waitingIn (fed bytes (boardAt xs) .board .insts))) (sym h ∙ rw q at (passing bytes xs q))
+    go : (z : Bool) → sound xs ≡ z → refusedBy (cond z (fed bytes (channelAt xs) .answer + 256 * waitingIn (fed bytes (channelAt xs) .channel .board .insts)) 17) ≡ false
+    go true q = off (refusedBy (fed bytes (channelAt xs) .answer + 256 * waitingIn (fed bytes (channelAt xs) .channel .board .insts))) (sym h ∙ rw q at (passing bytes xs q))
     go false q = refl
 
 each-message : (rec : List ℕ) (ps : List Piece) → Messages (λ p n. passes (frameOf (take n (drop p rec))) ≡ true) ps

@@ -1,6 +1,8 @@
 -- Calls on a store, one after another, as the contracts of the exported functions have them.
 use mathlib.Core.List.{List, [], _∷_}
 use Prim.Native.Nat.{ℕ}
+use Rattle.board.specs.Calls.{Call, fed, aside}
+use Rattle.fields.specs.Messages.{messageIn}
 use Rattle.feed.specs.Feeding.{feedStore}
 
 -- A call: any bytes are fed, or one that only reads the store (a quote, a writing, a state, a summary, a lot), refused or not.
@@ -22,3 +24,8 @@ lefts (a ∷ cs) xs = lefts cs (left a xs)
 abbrev pub Along : (Act → List ℕ → Type 0) → List Act → List ℕ → Type 0
 Along P [] xs = Unit {0}
 Along P (a ∷ cs) xs = P a xs × Along P cs (left a xs)
+
+-- The call on a channel of a depth kind that it is.
+abbrev pub callOf : ℕ → Act → Call
+callOf depth (feeds bytes) = fed (messageIn depth bytes)
+callOf depth reads = aside 0

@@ -1,5 +1,6 @@
 pub mod Acts
 pub mod Recovery
+pub mod Loops
 pub mod Hut
 pub mod Marked
 pub mod Quotes

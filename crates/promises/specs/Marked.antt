@@ -14,8 +14,9 @@ use Rattle.book.specs.Rules.{leaves, breach, afterNew, afterThru, afterFrom}
 use Rattle.book.specs.declared.Entry.{Entry}
 use Rattle.message.specs.Message.{refused}
 use Rattle.message.specs.declared.Refusal.the-variants.{BadFields}
-use Rattle.board.specs.Board.{Board, opened}
 use Rattle.board.specs.Calls.{inst}
+use Rattle.loops.specs.Channel.{Channel}
+use Rattle.loops.specs.Calls.{openedChannel}
 use Rattle.fields.specs.Messages.{messageIn}
 use Rattle.store.specs.Meaning.{boardAt}
 use Rattle.opening.specs.Opening.{openAnswer, openStore}
@@ -25,18 +26,18 @@ use Rattle.send.specs.Send.{sendOut}
 use Rattle.samples.specs.Messages.{empty-book, point-alone, eight-decimals, first, second, third, at-1, at-2, at-4}
 use Rattle.samples.specs.Says.{bid-2, offer-3}
 
--- M11: a fresh board that follows 7, and what three messages leave of it.
-abbrev pub zero : Board
-zero = opened 0 (7 ∷ [])
+-- M11: a fresh channel that follows 7, and what three messages leave of it.
+abbrev pub zero : Channel
+zero = openedChannel 0 (7 ∷ [])
 
-abbrev pub one : Board
-one = fed first zero .board
+abbrev pub one : Channel
+one = fed first zero .channel
 
-abbrev pub two : Board
-two = fed third one .board
+abbrev pub two : Channel
+two = fed third one .channel
 
-abbrev pub three : Board
-three = fed second two .board
+abbrev pub three : Channel
+three = fed second two .channel
 
 -- M13 and M14: any store that opening takes for 7, once it has taken the empty book, and once it has then heard message 1, which
 -- was sent at 13:00:00.000.
@@ -100,13 +101,13 @@ pub record MarkedCases : Type 0 where
   pub m11-first : fed first zero .answer ≡ 0
   pub m11-third : fed third one .answer ≡ 1
   pub m11-second : fed second two .answer ≡ 2
-  pub m11-base : three .B ≡ 2
-  pub m11-last : three .H ≡ 3
+  pub m11-base : three .board .B ≡ 2
+  pub m11-last : three .board .H ≡ 3
   -- after it 369 = 1, 4, 2: 7, 8, taken with message 3 replayed
   pub m12-below : fed at-1 three .answer ≡ 7
   pub m12-above : fed at-4 three .answer ≡ 8
   pub m12-taken : fed at-2 three .answer ≡ 4
-  pub m12-book : inst 7 (fed at-2 three .board) .book ≡ record { bids = bid-2 ∷ []; offers = offer-3 ∷ [] }
+  pub m12-book : inst 7 (fed at-2 three .channel .board) .book ≡ record { bids = bid-2 ∷ []; offers = offer-3 ∷ [] }
   -- heard 13:00:00.000, limit 30: 13:00:30.000 quoted, 13:00:30.001 is 24, 12:59:59.999 is 23
   pub m13-heard : HeardAtOne
   pub m13-quoted : QuotedWith 0 (49 ∷ 51 ∷ 58 ∷ 48 ∷ 48 ∷ 58 ∷ 51 ∷ 48 ∷ 46 ∷ 48 ∷ 48 ∷ 48 ∷ [])

@@ -7,9 +7,10 @@ use Rattle.book.specs.Rules.{Lists, leaves}
 use Rattle.book.specs.declared.Update.{Update}
 use Rattle.message.specs.Message.{Message}
 use Rattle.board.specs.Calls.{fed, inst, Live}
-use Rattle.board.specs.Demand.{NumberedFromOne, NeverBreaks, bookAt, Right, Truth, Fair}
+use Rattle.board.specs.Demand.{NumberedFromOne, NeverBreaks, bookAt, Truth}
+use Rattle.loops.specs.Demand.{RightBy, FairBy}
 use Rattle.fields.specs.Messages.{messageIn}
-use Rattle.store.specs.Meaning.{boardAt}
+use Rattle.store.specs.Meaning.{boardAt, channelAt}
 use Rattle.opening.specs.Opening.{openAnswer, openStore}
 use Rattle.promises.specs.Acts.{Act, feeds, reads, lefts, Along}
 
@@ -17,10 +18,11 @@ use Rattle.promises.specs.Acts.{Act, feeds, reads, lefts, Along}
 abbrev pub readIn : ℕ → List (List ℕ) → List Message
 readIn depth stream = map (messageIn depth) stream
 
--- Supposed of a call: a message that it counts is the stream's of that number, and a snapshot of d that it takes shows the
--- stream's book at the number that the snapshot names.
+-- Supposed of a call: a message that it counts is the stream's of that number; a snapshot of d that it takes shows the stream's book
+-- at the number that the snapshot names; and where the end of a loop takes a snapshot for d, which the loop did not name, the
+-- stream's book of d is empty at the lowest 369 of the loop.
 abbrev pub Supposed : ℕ → List (List ℕ) → ℕ → Act → List ℕ → Type 0
-Supposed depth stream d (feeds bytes) xs = Right (readIn depth stream) d (fed (messageIn depth bytes)) (boardAt xs)
+Supposed depth stream d (feeds bytes) xs = RightBy (readIn depth stream) d (fed (messageIn depth bytes)) (channelAt xs)
 Supposed depth stream d reads xs = Unit {0}
 
 -- Demand 3.
@@ -35,9 +37,10 @@ RecoversStream =
     ≡ leaves (inst d (boardAt (lefts cs (openStore depth ids xs))) .book)
 
 -- The stronger statement, from which it follows: s n are the entries for d in message n, and t n is its true book after it, which
--- the stream may break. Less is supposed of a call: a message that it counts has the stream's entries for d.
+-- the stream may break. Less is supposed of a call: a message that it counts has the stream's entries for d, and it is the true book
+-- that snapshots and the ends of loops show.
 abbrev pub SupposedLess : ℕ → ℕ → (ℕ → List Update) → (ℕ → Lists) → Act → List ℕ → Type 0
-SupposedLess depth d s t (feeds bytes) xs = Fair d s t (fed (messageIn depth bytes)) (boardAt xs)
+SupposedLess depth d s t (feeds bytes) xs = FairBy d s t (fed (messageIn depth bytes)) (channelAt xs)
 SupposedLess depth d s t reads xs = Unit {0}
 
 abbrev pub RecoversTruth : Type 0

@@ -1,13 +1,16 @@
--- A refused call changes neither store nor output (document 01, "Answer numbers"): over the contracts of the nine exported functions.
+-- A refused call changes neither store nor output (document 01, "Answer numbers"): over the contracts of the nine exported functions. A
+-- snapshot that is refused (5 to 9) is in its loop all the same, and does to the store what the loop does (document 02, K1).
 use mathlib.Core.Path.{_≡_}
-use mathlib.Core.Bool.{Bool, false}
+use mathlib.Core.Bool.{Bool, true, false}
 use mathlib.Core.List.{List}
 use Prim.Native.Nat.{ℕ, _%_}
 use lib.Dec.{eqb}
-use Rattle.board.specs.Calls.{changes}
+use Rattle.board.specs.Ranges.{within}
+use Rattle.loops.specs.Laws.{touches}
 use Rattle.sound.specs.Settled.{Allowed}
 use Rattle.opening.specs.Opening.{Opened}
 use Rattle.feed.specs.Feeding.{Fed}
+use Rattle.feed.specs.Laws.{Looped}
 use Rattle.ask.specs.Ask.{Asked, Stated}
 use Rattle.ask.specs.Laws.{RefusedCarriesZeros}
 use Rattle.summary.specs.Summary.{Summed}
@@ -25,9 +28,11 @@ abbrev pub isDone : ℕ → Bool
 isDone a = eqb a 0
 
 pub record RefusalsStay : Type 0 where
-  -- only 0, 1, 3, 4 and 10 change the store
+  -- only 0 of opening, and 0, 1, 3 and 4 to 10 of feeding, change the store
   pub opening : (depth : ℕ) (ids xs : List ℕ) → Stays isDone (Opened depth ids xs) xs
-  pub feeding : (bytes xs : List ℕ) → Stays changes (Fed bytes xs) xs
+  pub feeding : (bytes xs : List ℕ) → Stays touches (Fed bytes xs) xs
+  -- and 5 to 9 by the loop alone
+  pub looping : (bytes xs : List ℕ) (r : ℕ) (ys : List ℕ) → Fed bytes xs r ys → within 5 9 (r % 256) ≡ true → Looped bytes xs ys
   -- and only 0 writes into the output
   pub quoting : (id : ℕ) (now : List ℕ) (limit : ℕ) (room xs : List ℕ) → Stays isDone (Asked id now limit room xs) room
   pub writing : (id : ℕ) (sender target : List ℕ) (k m : ℕ) (time room xs : List ℕ) → Stays isDone (Sent id sender target k m time room xs) room

@@ -7,20 +7,21 @@ use lib.ListN.{take}
 use Rattle.digits.specs.declared.Number.{Number}
 use Rattle.moment.specs.Moments.{momentOf}
 use Rattle.message.specs.Message.{snapshot}
+use Rattle.board.specs.Board.{out}
 use Rattle.board.specs.Snapshot.{shown}
 use Rattle.board.specs.Calls.{inst}
 use Rattle.fields.specs.Messages.{messageIn}
-use Rattle.store.specs.Meaning.{boardAt}
+use Rattle.store.specs.Meaning.{boardAt, channelAt}
 use Rattle.sound.specs.Sound.{sound}
 use Rattle.feed.specs.Feeding.{fed, feedStore}
 use Rattle.send.specs.Send.{sendAnswer, sendOut}
 use Rattle.roundtrip.specs.ReadBack.{newOf, Sized}
 use Rattle.roundtrip.specs.TakenBack.{Awaits, Taken}
 
--- Another store ys, fed these bytes: they are taken (4), and the instrument is Live with the book.
+-- Another store ys, fed these bytes: they are taken (4), and the instrument is Live with the book, behind the end of a loop too.
 pub record TakenBy (xs : List ℕ) (id : ℕ) (bytes ys : List ℕ) : Type 0 where
-  pub taken : Taken id (inst id (boardAt xs) .book) (fed bytes (boardAt ys))
-  pub after : boardAt (feedStore bytes ys) ≡ fed bytes (boardAt ys) .board
+  pub taken : Taken id (inst id (boardAt xs) .book) (out (fed bytes (channelAt ys) .answer) (fed bytes (channelAt ys) .channel .board))
+  pub after : channelAt (feedStore bytes ys) ≡ fed bytes (channelAt ys) .channel
 
 -- What the bytes are that a writing of the store xs leaves.
 pub record SameBook (xs : List ℕ) (id k m : ℕ) (time bytes : List ℕ) : Type 0 where

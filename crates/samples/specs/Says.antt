@@ -28,3 +28,10 @@ third-says = numbered 3 64968180542000 (record { who = 7; what = 1; action = 0; 
 -- A snapshot of 7 after message S with one bid.
 abbrev pub shows : ℕ → Entry → Message
 shows S e = snapshot (record { number = 1; heard = 64968180540000; id = 7; last = S; loops = 1 }) (record { who = 7; what = 0; action = 0; place = 1; entry = e } ∷ [])
+
+-- A loop of two: 7 after message 2, and 11 after message 3.
+abbrev pub one-says : Message
+one-says = snapshot (record { number = 1; heard = 64968180540000; id = 7; last = 2; loops = 2 }) (record { who = 7; what = 0; action = 0; place = 1; entry = bid-2 } ∷ [])
+
+abbrev pub two-says : Message
+two-says = snapshot (record { number = 2; heard = 64968180540000; id = 11; last = 3; loops = 2 }) []

@@ -2,13 +2,13 @@
 use mathlib.Core.Path.{_≡_, refl}
 use mathlib.Core.Bool.{Bool, true, false, cond, not, _&&_, _||_}
 use mathlib.Core.List.{List}
-use Prim.Native.Nat.{ℕ, _+_, _*_, _/_, _%_, _^_, _≤_, _<_}
-use native.Mathlib.Nat.{div-eq-of-lt, mod-lt}
+use Prim.Native.Nat.{ℕ, _/_, _^_, _≤_, _<_}
+use native.Mathlib.Nat.{div-eq-of-lt}
 use native.Mathlib.Omega.{arith}
 use lib.Dec.{leb, eqb}
 use lib.ListN.{getD}
-use lib.Pow.{pow-pos, split}
 use borrow.Author.Tests.{leb-true, eqb-true, le-leb, lt-ltb, eq-eqb}
+use Rattle.heading.proofs.Bits.{no-bit}
 use Rattle.board.specs.Ranges.{mostNumber, momentFine}
 use Rattle.board.specs.Sound.{heardFine}
 use Rattle.board.proofs.Tested.{both, and-true}
@@ -57,10 +57,6 @@ tests-heard n m h = go (eqb n 0) h
     go : (t : Bool) → cond t (eqb m 0) (momentFine m) ≡ true → (momentFine m ≡ true) × (not t || eqb m 0 ≡ true)
     go true h = let z : m ≡ 0 = eqb-true m 0 h in (lt-ltb m 320829012000000 (omega arith), h)
     go false h = (h, refl)
-
--- no bit at or above k
-no-bit : (m k : ℕ) → m / 2 ^ k ≡ 0 → m < 2 ^ k
-no-bit m k e = let s : 0 * 2 ^ k + m % 2 ^ k ≡ m = rw e at (split m k) in omega (arith, s, mod-lt m (pow-pos k))
 
 -- where none waits
 rest-tests : (m q b n : ℕ) → not (eqb m 0) || (eqb q 0 && eqb b n) ≡ true → m ≡ 0 → (q ≡ 0) × (b ≡ n)

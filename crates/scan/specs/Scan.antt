@@ -9,7 +9,9 @@ use Rattle.cells.specs.Cells.{tab}
 use Rattle.board.specs.Ranges.{within, mostNumber, idFine, momentFine}
 use Rattle.board.specs.Sound.{distinct}
 use Rattle.sides.specs.Side.{each, allZero, entryScan, sideScan, roomOf}
+use Rattle.loops.specs.Sound.{soundLoop}
 use Rattle.store.specs.Layout.{storeSize, layoutNumber, atLayout, atDepth, atFollowed, atNumber, atBase, atHeard, atMarks, atQueued, idOf, bidsOf, slotOf}
+use Rattle.store.specs.Meaning.{loopAt}
 
 -- ---- the heading
 
@@ -39,10 +41,10 @@ recordScan xs at = idFine (getD xs at 0) && leb (getD xs (at + 1) 0) 2 && allZer
 abbrev pub spread : List ℕ → ℕ → ℕ → ℕ → List ℕ
 spread xs at step n = tab (λ (i : ℕ). getD xs (at + i * step) 0) n
 
--- What is spare behind the heading, n records, what is unused behind them, and no SecurityID twice.
+-- What is spare behind the heading and the loop's record, n records, what is unused behind them, and no SecurityID twice.
 unfoldable pub recordsScan : List ℕ → ℕ → Bool
 recordsScan xs n =
-    allZero xs 8 24
+    allZero xs 12 20
     && (each (λ (i : ℕ). recordScan xs (idOf i)) n && (allZero xs (32 + n * 8) (128 - n * 8) && distinct (spread xs 32 8 n)))
 
 -- ---- places
@@ -94,10 +96,12 @@ queueScan most full xs =
 
 -- ---- the whole
 
+-- The loop's record, the books, the queue.
 unfoldable pub restScan : List ℕ → Bool
 restScan xs =
-    booksScan (mostOf (getD xs atDepth 0)) (fullOf (getD xs atDepth 0)) xs
-    && queueScan (mostOf (getD xs atDepth 0)) (fullOf (getD xs atDepth 0)) xs
+    soundLoop (getD xs atFollowed 0) (loopAt xs)
+    && (booksScan (mostOf (getD xs atDepth 0)) (fullOf (getD xs atDepth 0)) xs
+    && queueScan (mostOf (getD xs atDepth 0)) (fullOf (getD xs atDepth 0)) xs)
 
 unfoldable pub scan : List ℕ → Bool
 scan xs = leb storeSize (length xs) && (headingScan xs && (recordsScan xs (getD xs atFollowed 0) && restScan xs))

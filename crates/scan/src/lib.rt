@@ -6,7 +6,9 @@ ghost use mathlib.Core.Bool.{true};
 ghost use Prim.Native.Nat.{ℕ, _+_, _*_, _≤_, _<_};
 ghost use lib.ListN.{length, getD, drop};
 ghost use Rattle.board.specs.Sound.{distinct, among};
+ghost use Rattle.loops.specs.Sound.{soundLoop};
 ghost use Rattle.store.specs.Layout.{storeSize, atFollowed, atBase, atQueued};
+ghost use Rattle.store.specs.Meaning.{loopAt};
 ghost use Rattle.scan.specs.Scan.{headingScan, recordScan, spread, recordsScan, mostOf, fullOf, bookScan, booksScan, updateScan, slotScan, queueScan, restScan, scan};
 
 // How many instruments and how many queued entries there are at most, as numbers of a store.
@@ -289,11 +291,28 @@ fn queue(store: &[u64], most: u64, full: u64) -> bool
     )
 }
 
-// The books and the queue.
+// The record of the loop of snapshots.
+fn looped(store: &[u64]) -> bool
+    requires { ⌜ (storeSize ≤ length (now store)) × (getD (now store) atFollowed 0 ≤ 16) ⌝ }
+    ensures { λ r. ⌜ r ≡ soundLoop (getD (now (store .entry)) atFollowed 0) (loopAt (now (store .entry))) ⌝ }
+{
+    loops::is_sound(
+        store[store::LOOPS],
+        store[store::COME],
+        store[store::LOW],
+        store[store::NAMED],
+        store[store::FOLLOWED],
+    )
+}
+
+// The loop's record, the books and the queue.
 fn rest(store: &[u64]) -> bool
     requires { ⌜ (storeSize ≤ length (now store)) × (getD (now store) atFollowed 0 ≤ 16) × (getD (now store) atQueued 0 ≤ 256) × (getD (now store) atBase 0 ≤ 4294967295) ⌝ }
     ensures { λ r. ⌜ r ≡ restScan (now (store .entry)) ⌝ }
 {
+    if !looped(store) {
+        return false;
+    }
     let depth = store[store::DEPTH];
     let most = most_of(depth);
     let full = full_of(depth);

@@ -1,4 +1,4 @@
--- The facts of the scan are that the store is one that crate store's calls may find, and that its board is sound.
+-- The facts of the scan are that the store is one that crate store's calls may find, and that its board and its loop are sound.
 use mathlib.Core.Path.{_≡_, refl, sym, ap, _∙_}
 use mathlib.Core.Bool.{Bool, true, false, cond}
 use mathlib.Core.List.{List, [], _∷_}
@@ -20,10 +20,12 @@ use Rattle.board.proofs.Each.{each-append, each-at}
 use Rattle.store.specs.Layout.{atDepth, atFollowed, atNumber, atMarks, atQueued, bidsOf, offersOf}
 use Rattle.store.specs.Meaning.{instAt, queuedAt, boardOf, boardAt, loaded}
 use Rattle.store.specs.Canon.{Formed, Canon}
+use Rattle.store.proofs.Decode.{insts-length}
 use Rattle.store.proofs.Marked.{any-board}
 use Rattle.sides.specs.Side.{roomOf}
 use Rattle.scan.specs.Scan.{spread}
 use Rattle.scan.proofs.Headings.{Headed}
+use Rattle.sound.specs.Laws.{LoopSound}
 use Rattle.sound.proofs.Zeros.{Zeros, zeros-of, spare-of}
 use Rattle.sound.proofs.Back.{noQueued, canon-of}
 use Rattle.sound.proofs.Sides.{SideFacts, side-kept, side-sound, facts-of}
@@ -127,12 +129,12 @@ module _ (xs : List ℕ) where
           rest = rest-sound;
         }
 
-    pub scanned-sound : Canon (loaded xs) × Sound (boardAt xs)
-    scanned-sound = (canon-of xs formed-of sound-of, sound-of)
+    pub scanned-sound : Canon (loaded xs) × Sound (boardAt xs) × LoopSound xs
+    scanned-sound = (canon-of xs formed-of sound-of, sound-of, rw (insts-length (loaded xs)) (s .loop))
 
   -- ---- and to them
 
-  module _ (f : Formed (loaded xs)) (s : Sound (boardAt xs)) where
+  module _ (f : Formed (loaded xs)) (s : Sound (boardAt xs)) (o : LoopSound xs) where
     zeros : Zeros n q xs
     zeros = zeros-of n q xs (f .few) (f .room) (f .spare)
 
@@ -203,6 +205,7 @@ module _ (xs : List ℕ) where
     sound-scanned = record {
       long = f .long;
       head = head-of;
+      loop = rw (insts-length (loaded xs)) at o;
       zeros = zeros;
       records = record-of;
       apart = rw ids-is at (s .apart);

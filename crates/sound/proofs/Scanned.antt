@@ -12,8 +12,10 @@ use Rattle.cells.proofs.Stores.{below-or}
 use Rattle.heading.specs.Marks.{marked}
 use Rattle.board.specs.Ranges.{within, idFine, updateFine}
 use Rattle.board.specs.Sound.{distinct}
-use Rattle.board.proofs.Tested.{both, four, and-true, within-true, is-within}
+use Rattle.board.proofs.Tested.{both, three, four, and-true, within-true, is-within}
+use Rattle.loops.specs.Sound.{soundLoop}
 use Rattle.store.specs.Layout.{storeSize, atDepth, atFollowed, atNumber, atMarks, atQueued, idOf, reasonOf, bidsOf, offersOf, slotOf}
+use Rattle.store.specs.Meaning.{loopAt}
 use Rattle.sides.specs.Side.{each, allZero, sideScan, roomOf}
 use Rattle.scan.specs.Scan.{headingScan, recordScan, spread, recordsScan, mostOf, fullOf, bookScan, booksScan, updateScan, slotScan, lowOf, queueScan, restScan, scan}
 use Rattle.sides.proofs.Each.{each-at, each-of, zero-at, zero-of}
@@ -124,6 +126,7 @@ module _ (xs : List ℕ) (i : ℕ) where
 pub record Scanned (xs : List ℕ) : Type 0 where
   pub long : storeSize ≤ length xs
   pub head : Headed xs
+  pub loop : soundLoop (getD xs atFollowed 0) (loopAt xs) ≡ true
   pub zeros : Zeros (getD xs atFollowed 0) (getD xs atQueued 0) xs
   pub records : (i : ℕ) → i < getD xs atFollowed 0 → RecordFacts xs i
   pub apart : distinct (spread xs 32 8 (getD xs atFollowed 0)) ≡ true
@@ -166,10 +169,10 @@ module _ (xs : List ℕ) where
       let h = headed xs (p .1) in
       let few : n ≤ 16 = h .few in
       let room : q ≤ 256 = h .room in
-      let r = four (allZero xs 8 24) (each record-tests n) (allZero xs (32 + n * 8) (128 - n * 8)) (distinct (spread xs 32 8 n)) (p .2) in
-      let s = both (booksScan most full xs) (queueScan most full xs) (p .3) in
-      let t = both (each book-tests n) (allZero xs (160 + n * 256) (4096 - n * 256)) (s .0) in
-      let u = both (each slot-tests q) (allZero xs (4256 + q * 11) (2912 - q * 11)) (s .1) in
+      let r = four (allZero xs 12 20) (each record-tests n) (allZero xs (32 + n * 8) (128 - n * 8)) (distinct (spread xs 32 8 n)) (p .2) in
+      let s = three (soundLoop n (loopAt xs)) (booksScan most full xs) (queueScan most full xs) (p .3) in
+      let t = both (each book-tests n) (allZero xs (160 + n * 256) (4096 - n * 256)) (s .1) in
+      let u = both (each slot-tests q) (allZero xs (4256 + q * 11) (2912 - q * 11)) (s .2) in
       let rec : (i : ℕ) → i < n → RecordFacts xs i = λ i l. record-facts xs i (each-at record-tests n i (r .1) l) in
       let book : (i : ℕ) → i < n → SideFacts (getD xs atDepth 0) (roomOf (getD xs atMarks 0) i) xs (bidsOf i) × SideFacts (getD xs atDepth 0) (roomOf (getD xs atMarks 0) i) xs (offersOf i) =
       λ i l. book-facts xs i (each-at book-tests n i (t .0) l) in
@@ -177,8 +180,9 @@ module _ (xs : List ℕ) where
       record {
         long = leb-true storeSize (length xs) (p .0);
         head = h;
+        loop = s .0;
         zeros = record {
-          heading = λ k l m. run 8 24 k (r .0) l (omega arith);
+          heading = λ k l m. run 12 20 k (r .0) l (omega arith);
           in-record = λ i j l m o. rec i l .spare j m o;
           records = λ k l m. run (32 + n * 8) (128 - n * 8) k (r .2) l (omega arith);
           in-side = λ i j l m o.
@@ -209,11 +213,12 @@ module _ (xs : List ℕ) where
       and-true (le-leb storeSize (length xs) (s .long))
       (and-true (heading-of xs h)
       (and-true
-      (and-true (zero-of xs 8 24 (λ k l. s .zeros .heading (8 + k) (omega arith) (omega arith)))
+      (and-true (zero-of xs 12 20 (λ k l. s .zeros .heading (12 + k) (omega arith) (omega arith)))
       (and-true (each-of record-tests n (λ i l. facts-record xs i (s .records i l)))
       (and-true (zero-of xs (32 + n * 8) (128 - n * 8) (λ k l. s .zeros .records (32 + n * 8 + k) (omega arith) (omega arith))) (s .apart))))
+      (and-true (s .loop)
       (and-true
       (and-true (each-of book-tests n (λ i l. facts-book xs i (s .bids i l) (s .offers i l)))
       (zero-of xs (160 + n * 256) (4096 - n * 256) (λ k l. s .zeros .sides (160 + n * 256 + k) (omega arith) (omega arith))))
       (and-true (each-of slot-tests q (λ i l. facts-slot xs i (s .slots i l)))
-      (zero-of xs (4256 + q * 11) (2912 - q * 11) (λ k l. s .zeros .queue (4256 + q * 11 + k) (omega arith) (omega arith)))))))
+      (zero-of xs (4256 + q * 11) (2912 - q * 11) (λ k l. s .zeros .queue (4256 + q * 11 + k) (omega arith) (omega arith))))))))

@@ -8,9 +8,9 @@ use Rattle.cells.proofs.Stores.{below-or}
 use Rattle.store.specs.Canon.{Unused, Spare}
 use Rattle.cells.specs.Cells.{sideSize}
 
--- behind the heading; in a record and behind the records; in a side and behind the sides; in a slot and behind the queue
+-- behind the heading and the loop's record; in a record and behind the records; in a side and behind the sides; in a slot and behind the queue
 pub record Zeros (f q : ℕ) (xs : List ℕ) : Type 0 where
-  pub heading : (k : ℕ) → 8 ≤ k → k < 32 → getD xs k 0 ≡ 0
+  pub heading : (k : ℕ) → 12 ≤ k → k < 32 → getD xs k 0 ≡ 0
   pub in-record : (i j : ℕ) → i < f → 2 ≤ j → j < 8 → getD xs (32 + i * 8 + j) 0 ≡ 0
   pub records : (k : ℕ) → 32 + f * 8 ≤ k → k < 160 → getD xs k 0 ≡ 0
   pub in-side : (i j : ℕ) → i < f * 2 → sideSize ≤ j → j < 128 → getD xs (160 + i * 128 + j) 0 ≡ 0
@@ -55,7 +55,7 @@ module _ (f q : ℕ) (xs : List ℕ) (few : f ≤ 16) (room : q ≤ 256) where
 
   pub spare-of : Zeros f q xs → Spare f q xs
   spare-of z k l u =
-      below-or k 8 (λ p. absurd (u .head p)) (λ p.
+      below-or k 12 (λ p. absurd (u .head p)) (λ p.
       below-or k 32 (λ o. z .heading k p o) (λ o.
       below-or k (32 + f * 8) (λ n. of-record z k u o n) (λ n.
       below-or k 160 (λ m. z .records k n m) (λ m.

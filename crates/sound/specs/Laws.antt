@@ -1,14 +1,15 @@
--- What is shown of sound stores: such a store and its board determine each other, and they are the stores that the channel's
+-- What is shown of sound stores: such a store and its channel determine each other, and they are the stores that the channel's
 -- code may find and leaves.
 use mathlib.Core.Path.{_≡_}
-use mathlib.Core.Bool.{true}
+use mathlib.Core.Bool.{true, false}
 use mathlib.Core.List.{List, _++_}
 use Prim.Native.Nat.{ℕ}
-use lib.ListN.{length, take}
-use Rattle.board.specs.Board.{Board}
-use Rattle.board.specs.Sound.{soundBoard, Sound}
-use Rattle.store.specs.Layout.{storeSize}
-use Rattle.store.specs.Meaning.{boardAt, loaded, written}
+use lib.ListN.{length, getD, take}
+use Rattle.board.specs.Sound.{among, Sound}
+use Rattle.loops.specs.Channel.{Channel}
+use Rattle.loops.specs.Sound.{soundLoop, soundChannel}
+use Rattle.store.specs.Layout.{storeSize, atLayout, earlierLayouts}
+use Rattle.store.specs.Meaning.{boardAt, loopAt, channelAt, loaded, written}
 use Rattle.store.specs.Canon.{Formed, Canon}
 use Rattle.scan.specs.Scan.{scan}
 use Rattle.sound.specs.Sound.{sound}
@@ -17,33 +18,44 @@ use Rattle.sound.specs.Sound.{sound}
 abbrev pub ScanIsSound : Type 0
 ScanIsSound = (xs : List ℕ) → scan xs ≡ sound xs
 
--- A sound store's 7,168 numbers are those of its board.
+-- A sound store's 7,168 numbers are those of its channel.
 abbrev pub SoundIsWritten : Type 0
-SoundIsWritten = (xs : List ℕ) → sound xs ≡ true → take storeSize xs ≡ written (boardAt xs)
+SoundIsWritten = (xs : List ℕ) → sound xs ≡ true → take storeSize xs ≡ written (channelAt xs)
 
--- A board takes 7,168 numbers.
+-- A channel takes 7,168 numbers.
 abbrev pub WrittenLength : Type 0
-WrittenLength = (b : Board) → length (written b) ≡ storeSize
+WrittenLength = (c : Channel) → length (written c) ≡ storeSize
 
--- The numbers of a sound board, whatever stands behind them, are read as that board.
+-- The numbers of a sound channel, whatever stands behind them, are read as that channel.
 abbrev pub WrittenReadsBack : Type 0
-WrittenReadsBack = (b : Board) (ys : List ℕ) → soundBoard b ≡ true → boardAt (written b ++ ys) ≡ b
+WrittenReadsBack = (c : Channel) (ys : List ℕ) → soundChannel c ≡ true → channelAt (written c ++ ys) ≡ c
 
 -- They are a sound store.
 abbrev pub WrittenIsSound : Type 0
-WrittenIsSound = (b : Board) (ys : List ℕ) → soundBoard b ≡ true → sound (written b ++ ys) ≡ true
+WrittenIsSound = (c : Channel) (ys : List ℕ) → soundChannel c ≡ true → sound (written c ++ ys) ≡ true
 
--- So two sound stores of one board have the same numbers.
+-- So two sound stores of one channel have the same numbers.
 abbrev pub SoundOnce : Type 0
-SoundOnce = (xs ys : List ℕ) → sound xs ≡ true → sound ys ≡ true → boardAt xs ≡ boardAt ys → take storeSize xs ≡ take storeSize ys
+SoundOnce = (xs ys : List ℕ) → sound xs ≡ true → sound ys ≡ true → channelAt xs ≡ channelAt ys → take storeSize xs ≡ take storeSize ys
 
 -- A sound store is one that the channel's code may find, with a sound board.
 abbrev pub SoundIsCanon : Type 0
 SoundIsCanon = (xs : List ℕ) → sound xs ≡ true → Canon (loaded xs) × Sound (boardAt xs)
 
--- And one that it leaves with a sound board is sound.
+-- The record of its loop is sound.
+abbrev pub LoopSound : List ℕ → Type 0
+LoopSound xs = soundLoop (length (boardAt xs .insts)) (loopAt xs) ≡ true
+
+abbrev pub SoundIsLooped : Type 0
+SoundIsLooped = (xs : List ℕ) → sound xs ≡ true → LoopSound xs
+
+-- And one that it leaves with a sound board and a sound loop is sound.
 abbrev pub FormedIsSound : Type 0
-FormedIsSound = (xs : List ℕ) → Formed (loaded xs) → Sound (boardAt xs) → sound xs ≡ true
+FormedIsSound = (xs : List ℕ) → Formed (loaded xs) → Sound (boardAt xs) → LoopSound xs → sound xs ≡ true
 
 abbrev pub CanonIsSound : Type 0
-CanonIsSound = (xs : List ℕ) → Canon (loaded xs) → Sound (boardAt xs) → sound xs ≡ true
+CanonIsSound = (xs : List ℕ) → Canon (loaded xs) → Sound (boardAt xs) → LoopSound xs → sound xs ≡ true
+
+-- A store of an earlier layout is unsound.
+abbrev pub EarlierIsUnsound : Type 0
+EarlierIsUnsound = (xs : List ℕ) → among (getD xs atLayout 0) earlierLayouts ≡ true → sound xs ≡ false

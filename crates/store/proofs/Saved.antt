@@ -1,13 +1,14 @@
--- A heading that is saved is read again, and its numbers belong to nothing else.
+-- A heading and a loop's record that are saved are read again, and their numbers belong to nothing else.
 use mathlib.Core.Path.{_≡_, refl, ap, _∙_}
+use mathlib.Core.List.{List}
 use mathlib.Core.Logic.{inl, inr}
 use Prim.Native.Nat.{ℕ, _+_, _≤_, _<_}
 use native.Mathlib.Omega.{arith}
 use lib.ListN.{length, getD}
-use lib.Seq.{sets}
 use Rattle.cells.proofs.Stores.{in-sets}
 use Rattle.heading.specs.declared.Heading.{Heading}
-use Rattle.store.specs.Meaning.{headingAt, headWords, boardOf, boardAt, State, st, boardIn, loaded, saved}
+use Rattle.loops.specs.declared.Loop.{Loop}
+use Rattle.store.specs.Meaning.{headingAt, headWords, loopAt, loopWords, withLoop, boardOf, boardAt, State, st, boardIn, loaded, saved}
 use Rattle.store.specs.Canon.{Formed, Canon}
 use Rattle.store.proofs.Regions.{Agree, agree-sets}
 use Rattle.store.proofs.Decode.{insts-apart, queue-behind, book-apart}
@@ -52,3 +53,55 @@ saved-formed s c =
 
 pub saved-canon : (s : State) → Canon s → Canon (loaded (saved s))
 saved-canon s c = rw (saved-heading s (c .formed .long)) (record { formed = saved-formed s (c .formed); idle = c .idle })
+
+-- ---- the loop's record
+
+pub loop-agree : (l : Loop) (xs : List ℕ) → Agree 8 12 xs (withLoop l xs)
+loop-agree l xs = agree-sets xs 8 (loopWords l) 4 refl
+
+pub loop-saved : (l : Loop) (xs : List ℕ) → 7168 ≤ length xs → loopAt (withLoop l xs) ≡ l
+loop-saved l xs h =
+    let g : (j : ℕ) → j < 4 → getD (withLoop l xs) (8 + j) 0 ≡ getD (loopWords l) j 0 = λ j q. in-sets 0 xs 8 (loopWords l) j q (omega arith) in
+    rw (g 0 (omega arith), g 1 (omega arith), g 2 (omega arith), g 3 (omega arith))
+
+module _ (l : Loop) (xs : List ℕ) where
+  -- it is no number of the heading
+  loop-heading : headingAt (withLoop l xs) ≡ headingAt xs
+  loop-heading =
+      let a = loop-agree l xs in
+      rw (
+        a .outside 1 (inl (omega arith)),
+        a .outside 2 (inl (omega arith)),
+        a .outside 3 (inl (omega arith)),
+        a .outside 4 (inl (omega arith)),
+        a .outside 5 (inl (omega arith)),
+        a .outside 6 (inl (omega arith)),
+        a .outside 7 (inl (omega arith)),
+      )
+
+  pub loop-board : boardAt (withLoop l xs) ≡ boardAt xs
+  unfolding boardOf
+  loop-board =
+      let h = headingAt xs in
+      let a = loop-agree l xs in
+      ap (λ (x : Heading). boardOf x (withLoop l xs)) loop-heading
+      ∙ rw (
+        insts-apart a (h .marks) (h .followed) (λ i q. inr (omega arith)) (λ i q. inr (omega arith)),
+        queue-behind a (h .queued) (omega arith),
+      )
+
+  pub loop-formed : Formed (loaded xs) → Formed (loaded (withLoop l xs))
+  loop-formed c =
+      let a = loop-agree l xs in
+      rw loop-heading (record {
+        long = rw (a .long) (c .long);
+        layout = a .outside 0 (inl (omega arith)) ∙ c .layout;
+        some = c .some;
+        few = c .few;
+        marks = c .marks;
+        room = c .room;
+        books = λ i q. rw (book-apart a i (inr (omega arith))) (c .books i q);
+        spare =
+            spare-agree (getD xs 2 0) (getD xs 7 0) (getD xs 2 0) (getD xs 7 0) a (c .spare) (λ k _ u _. u)
+            (λ k p o _ u. absurd (u .head (omega arith)));
+      })

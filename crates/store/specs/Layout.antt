@@ -1,4 +1,5 @@
 -- The one table of offsets: where everything stands in the 7,168 numbers.
+use mathlib.Core.List.{List, [], _∷_}
 use Prim.Native.Nat.{ℕ, _+_, _*_}
 
 -- The store's numbers. What lies beyond is never touched.
@@ -7,10 +8,15 @@ storeSize = 7168
 
 -- The number of this layout, so that a store of another is unsound.
 abbrev pub layoutNumber : ℕ
-layoutNumber = 4601
+layoutNumber = 4602
+
+-- The numbers of earlier layouts, which no store of this one has.
+abbrev pub earlierLayouts : List ℕ
+earlierLayouts = 4601 ∷ []
 
 -- The heading: the layout's number, the depth kind, how many instruments are followed, H, B, the heard moment, the marks,
--- how many entries are queued; then 24 spare numbers.
+-- how many entries are queued; the record of the loop of snapshots: 911, how many have come, the lowest 369, the named; then 20
+-- spare numbers.
 abbrev pub atLayout : ℕ
 atLayout = 0
 
@@ -35,8 +41,23 @@ atMarks = 6
 abbrev pub atQueued : ℕ
 atQueued = 7
 
+abbrev pub atLoops : ℕ
+atLoops = 8
+
+abbrev pub atCome : ℕ
+atCome = 9
+
+abbrev pub atLow : ℕ
+atLow = 10
+
+abbrev pub atNamed : ℕ
+atNamed = 11
+
 abbrev pub headingUsed : ℕ
-headingUsed = 8
+headingUsed = 12
+
+abbrev pub headingSpare : ℕ
+headingSpare = 20
 
 -- 16 instrument records of 8 from 32 on: SecurityID, reason, and 6 spare numbers.
 abbrev pub idOf : ℕ → ℕ

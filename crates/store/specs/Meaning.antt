@@ -1,4 +1,4 @@
--- What a store means: the board that its numbers are, and the numbers that a board is.
+-- What a store means: the channel that its numbers are, its board and its loop, and the numbers that a channel is.
 use mathlib.Core.Bool.{cond}
 use mathlib.Core.List.{List, [], _∷_, _++_}
 use Prim.Native.Nat.{ℕ, zero, suc, _+_, _^_}
@@ -10,9 +10,11 @@ use Rattle.cells.specs.Cells.{tab, zeros, sideAt, sideWords, updateAt, queuedWo
 use Rattle.heading.specs.declared.Heading.{Heading}
 use Rattle.heading.specs.Marks.{marked}
 use Rattle.board.specs.Board.{Inst, Queued, Board}
-use Rattle.store.specs.Layout.{layoutNumber, atDepth, atFollowed, atNumber, atBase, atHeard, atMarks, atQueued, idOf, reasonOf, bidsOf, offersOf, slotOf, sideSpare}
+use Rattle.loops.specs.declared.Loop.{Loop}
+use Rattle.loops.specs.Channel.{Channel, channel}
+use Rattle.store.specs.Layout.{layoutNumber, atDepth, atFollowed, atNumber, atBase, atHeard, atMarks, atQueued, atLoops, atCome, atLow, atNamed, headingSpare, idOf, reasonOf, bidsOf, offersOf, slotOf, sideSpare}
 
--- ---- numbers as a board
+-- ---- numbers as a channel
 
 abbrev pub headingAt : List ℕ → Heading
 headingAt xs =
@@ -52,6 +54,13 @@ boardOf h xs =
 abbrev pub boardAt : List ℕ → Board
 boardAt xs = boardOf (headingAt xs) xs
 
+-- The record of its loop, and the channel that it is.
+abbrev pub loopAt : List ℕ → Loop
+loopAt xs = record { loops = getD xs atLoops 0; come = getD xs atCome 0; low = getD xs atLow 0; named = getD xs atNamed 0 }
+
+abbrev pub channelAt : List ℕ → Channel
+channelAt xs = channel (boardAt xs) (loopAt xs)
+
 -- A heading by value, and the store that it goes with.
 pub record State : Type 0 where
   pub head : Heading
@@ -66,7 +75,7 @@ boardIn s = boardOf (s .head) (s .store)
 abbrev pub loaded : List ℕ → State
 loaded xs = st (headingAt xs) xs
 
--- ---- a board as numbers
+-- ---- a channel as numbers
 
 -- What is written of a heading; it starts behind the layout's number.
 abbrev pub headWords : Heading → List ℕ
@@ -75,6 +84,13 @@ headWords h = h .depth ∷ h .followed ∷ h .number ∷ h .base ∷ h .heard �
 -- The store with its heading saved.
 abbrev pub saved : State → List ℕ
 saved s = sets (s .store) atDepth (headWords (s .head))
+
+-- What is written of a loop's record, behind the heading, and a store with it saved.
+abbrev pub loopWords : Loop → List ℕ
+loopWords l = l .loops ∷ l .come ∷ l .low ∷ l .named ∷ []
+
+abbrev pub withLoop : Loop → List ℕ → List ℕ
+withLoop l xs = sets xs atLoops (loopWords l)
 
 -- The marks of instruments, from index i on.
 unfoldable pub marksOf : ℕ → List Inst → ℕ
@@ -108,8 +124,9 @@ rows f wide zero l = []
 rows f wide (suc n) [] = zeros wide ++ rows f wide n []
 rows f wide (suc n) (x ∷ l) = f x ++ rows f wide n l
 
--- The 7,168 numbers of a board: heading, records, sides, queue, spare.
-unfoldable pub written : Board → List ℕ
-written b =
-    (layoutNumber ∷ headWords (headingOf b)) ++ (zeros 24
-    ++ (rows recordWords 8 16 (b .insts) ++ (rows bookWords 256 16 (b .insts) ++ (rows slotWords 11 256 (b .queue) ++ zeros 96))))
+-- The 7,168 numbers of a channel: heading, loop, spare, records, sides, queue, spare.
+unfoldable pub written : Channel → List ℕ
+written c =
+    (layoutNumber ∷ headWords (headingOf (c .board))) ++ (loopWords (c .loop) ++ (zeros headingSpare
+    ++ (rows recordWords 8 16 (c .board .insts)
+    ++ (rows bookWords 256 16 (c .board .insts) ++ (rows slotWords 11 256 (c .board .queue) ++ zeros 96)))))

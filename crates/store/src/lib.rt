@@ -1,20 +1,21 @@
 // The lent store: where everything stands in it (document 01, "All books live in one lent run of 64-bit numbers"), its
-// heading read and saved, an instrument found, a gap.
+// heading and its loop's record read and saved, an instrument found, a gap.
 use heading::Heading;
+use loops::Loop;
 ghost use mathlib.Core.Path.{_≡_};
 ghost use Prim.Native.Nat.{_≤_, _<_};
 ghost use lib.ListN.{length, getD};
 ghost use lib.Seq.{sets};
 ghost use Rattle.board.specs.Board.{look};
-ghost use Rattle.store.specs.Layout.{storeSize, atDepth, atMarks};
-ghost use Rattle.store.specs.Meaning.{headingAt, headWords, st, boardIn};
+ghost use Rattle.store.specs.Layout.{storeSize, atDepth, atMarks, atNamed};
+ghost use Rattle.store.specs.Meaning.{headingAt, headWords, loopAt, withLoop, st, boardIn};
 ghost use Rattle.store.specs.Steps.{gapS};
 
 // The store's numbers.
 pub const STORE: usize = 7168;
 
 // The number of this layout, and where it stands.
-pub const LAYOUT: u64 = 4601;
+pub const LAYOUT: u64 = 4602;
 
 pub const AT_LAYOUT: usize = 0;
 
@@ -33,10 +34,19 @@ pub const MARKS: usize = 6;
 
 pub const QUEUED: usize = 7;
 
-// The spare numbers behind the heading: where they start, and how many there are.
-pub const HEADING_SPARE: usize = 8;
+// The record of the loop of snapshots, behind the heading: 911, how many have come, the lowest 369, the named.
+pub const LOOPS: usize = 8;
 
-pub const HEADING_SPARE_SIZE: usize = 24;
+pub const COME: usize = 9;
+
+pub const LOW: usize = 10;
+
+pub const NAMED: usize = 11;
+
+// The spare numbers behind it: where they start, and how many there are.
+pub const HEADING_SPARE: usize = 12;
+
+pub const HEADING_SPARE_SIZE: usize = 20;
 
 // A channel follows at most so many instruments.
 pub const MOST_INSTS: usize = 16;
@@ -127,6 +137,28 @@ pub fn save_heading(store: &mut [u64], h: Heading)
     store[HEARD] = h.heard;
     store[MARKS] = h.marks as u64;
     store[QUEUED] = h.queued as u64;
+}
+
+pub fn load_loop(store: &[u64]) -> Loop
+    requires { ⌜ (storeSize ≤ length (now store)) × (getD (now store) atNamed 0 < 65536) ⌝ }
+    ensures { λ r. ⌜ r ≡ loopAt (now (store .entry)) ⌝ }
+{
+    Loop {
+        loops: store[LOOPS],
+        come: store[COME],
+        low: store[LOW],
+        named: store[NAMED] as u16,
+    }
+}
+
+pub fn save_loop(store: &mut [u64], l: Loop)
+    requires { ⌜ storeSize ≤ length (now store) ⌝ }
+    ensures { λ _. ⌜ now (store .exit) ≡ withLoop l (now (store .entry)) ⌝ }
+{
+    store[LOOPS] = l.loops;
+    store[COME] = l.come;
+    store[LOW] = l.low;
+    store[NAMED] = l.named as u64;
 }
 
 // The index of the instrument with this SecurityID, or how many are followed.

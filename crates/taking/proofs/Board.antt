@@ -16,7 +16,7 @@ use Rattle.book.proofs.Tests.{by-test}
 use Rattle.book.proofs.Canon.{kept-book-of}
 use Rattle.cells.specs.Cells.{tab}
 use Rattle.heading.specs.Marks.{marked, withMark}
-use Rattle.heading.proofs.Bits.{not-zero}
+use Rattle.heading.proofs.Bits.{not-zero, mark-own}
 use Rattle.board.specs.Board.{Inst, out, look, at, put, broken, settled}
 use Rattle.board.specs.Snapshot.{live, replayed, take, shown, tooWide, snapBy, snapAt, snap}
 use Rattle.store.specs.Meaning.{instAt, queuedAt, boardOf, State, boardIn}
@@ -28,7 +28,7 @@ use Rattle.queue.proofs.Joining.{settle-canon, settle-none}
 use Rattle.queue.proofs.Board.{settle-board}
 use Rattle.deliver.specs.Gives.{breakS}
 use Rattle.deliver.proofs.Outcomes.{lists-of, outcomeOf}
-use Rattle.deliver.proofs.Breaking.{mark-own, break-formed, break-board}
+use Rattle.deliver.proofs.Breaking.{break-formed, break-board}
 use Rattle.taking.specs.Replays.{replayB, liveS, replayedS, takeS, takeShownS, snapAtS, snapS}
 use Rattle.terms.specs.Terms.{refusalOf}
 use Rattle.taking.proofs.Outcomes.{replay-kept, replay-outcome}

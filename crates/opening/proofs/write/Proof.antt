@@ -1,4 +1,4 @@
--- `write` meets its contract: what its steps leave is the opened board's numbers.
+-- `write` meets its contract: what its steps leave is the opened channel's numbers.
 use mathlib.Core.Path.{ap, _∙_}
 use mathlib.Core.List.{List}
 use Prim.Native.Nat.{ℕ}

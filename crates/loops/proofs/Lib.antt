@@ -1,0 +1,10 @@
+pub mod Joins
+pub mod Ranges
+pub mod Keeping
+pub mod Rows
+pub mod Sounding
+pub mod Ending
+pub mod Laws
+pub mod Lowering
+pub mod Demand
+pub mod Cases

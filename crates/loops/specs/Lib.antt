@@ -1,0 +1,9 @@
+pub mod Loops
+pub mod Ending
+pub mod Channel
+pub mod Sound
+pub mod Calls
+pub mod Demand
+pub mod Rows
+pub mod Laws
+pub mod Cases
