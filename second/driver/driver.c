@@ -309,11 +309,11 @@ static void run_open(char **cursor)
     check_lent(lent);
 }
 
-/* Only 0, 1, 3, 4 and 10 change the store. */
+/* Only 0, 1 and 3 to 10 change the store. */
 static bool changes_store(uint64_t answer)
 {
-    return answer == SELKAVORN_DONE || answer == SELKAVORN_GAP || answer == SELKAVORN_LET_GO ||
-           answer == SELKAVORN_TAKEN || answer == SELKAVORN_REPLAY_BROKE;
+    return answer == SELKAVORN_DONE || answer == SELKAVORN_GAP ||
+           (answer >= SELKAVORN_LET_GO && answer <= SELKAVORN_REPLAY_BROKE);
 }
 
 static void run_feed(char **cursor)

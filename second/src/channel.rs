@@ -5,6 +5,7 @@ use crate::book::{Depth, Entry, Step, ROOM};
 use crate::calendar::Moment;
 use crate::flip::{either, on, Flip};
 use crate::instrument::Instrument;
+use crate::loops::{Loop, Turn};
 use crate::message::{self, Counted, Message, Snapshot};
 
 /// The entries that the queue has room for.
@@ -28,24 +29,40 @@ pub struct Channel {
     pub heard: Option<Moment>,
     pub instruments: Vec<Instrument>,
     pub queue: Vec<Queued>,
+    /// The loop of snapshots that runs, if one does.
+    pub running: Option<Loop>,
 }
 
 impl Channel {
-    /// H and B are 0 at opening, all instruments Waiting.
+    /// H and B are 0 at opening, all instruments Waiting, and no loop runs.
     pub fn open(depth: Depth, ids: &[u64]) -> Channel {
         let instruments = ids.iter().map(|id| Instrument::opened(*id)).collect();
-        Channel { depth, h: 0, b: 0, heard: None, instruments, queue: Vec::new() }
+        Channel { depth, h: 0, b: 0, heard: None, instruments, queue: Vec::new(), running: None }
     }
 
-    /// The answer to one message; only 0, 1, 3, 4 and 10 change anything.
-    pub fn feed(&mut self, message: &[u8]) -> u64 {
-        match message::read(message, self.depth) {
+    /// The answer to one message, and how many wait after it. 0, 1, 3, 4 and 10 change what they
+    /// say; a W that is answered 5 to 9 takes its turn in its loop all the same.
+    pub fn feed(&mut self, message: &[u8]) -> (u64, usize) {
+        let answer = match message::read(message, self.depth) {
             Ok(Message::Counted(counted)) => self.count(&counted),
-            Ok(Message::Snapshot(snapshot)) => self.snapshot(snapshot),
+            Ok(Message::Snapshot(snapshot)) => {
+                let turn = Turn::of(&snapshot);
+                let answer = self.snapshot(snapshot);
+                return self.take_turn(&turn, answer);
+            }
             Err(refusal) => {
                 self.h += either(Flip::RefusedCounted, 0, 1);
+                self.drop_loop_if(Flip::LoopMalformedDrops);
                 refusal
             }
+        };
+        (answer, self.waiting())
+    }
+
+    /// A loop goes on whatever lies between its W.
+    fn drop_loop_if(&mut self, flip: Flip) {
+        if on(flip) {
+            self.running = None;
         }
     }
 
@@ -73,12 +90,15 @@ impl Channel {
     fn count(&mut self, message: &Counted) -> u64 {
         if message.number <= either(Flip::OldAccepted, self.h, self.h.saturating_sub(1)) {
             self.heard = either(Flip::OldHeard, self.heard, Some(message.time));
+            self.drop_loop_if(Flip::LoopOldDrops);
             return OLD;
         }
         let gap = message.number > self.h + 1;
         if gap {
             self.clear_at_gap(message);
+            self.drop_loop_if(Flip::LoopGapDrops);
         }
+        self.drop_loop_if(Flip::LoopCountedDrops);
         let let_go = self.count_in_order(message);
         match (gap, let_go) {
             (true, _) => GAP,
@@ -126,6 +146,7 @@ impl Channel {
         if let_go {
             self.queue.clear();
             self.b = either(Flip::LetGoKeepsB, self.h, self.b);
+            self.drop_loop_if(Flip::LoopLetGoDrops);
         }
         if !let_go || on(Flip::LetGoKeepsMessage) {
             self.queue.extend(joining);
@@ -155,12 +176,15 @@ impl Channel {
                 }
             }
         }
+        if broke {
+            self.drop_loop_if(Flip::LoopBreakDrops);
+        }
         broke
     }
 
     /// Whenever none waits at the end of a call, and whenever none waited before a message in
     /// which one breaks, the queue is empty and B equals H.
-    fn settle(&mut self, broke_with_none_waiting: bool) {
+    pub(crate) fn settle(&mut self, broke_with_none_waiting: bool) {
         let broke = either(Flip::BreakKeepsB, broke_with_none_waiting, false);
         if self.waiting() == 0 || broke {
             self.queue.clear();
@@ -205,16 +229,15 @@ impl Channel {
     fn take_snapshot(&mut self, snapshot: Snapshot) -> u64 {
         let first = either(Flip::QueuedAtSAgain, snapshot.last + 1, snapshot.last);
         let id = snapshot.id;
-        let replay: Vec<Entry> = self
-            .queue
-            .iter()
-            .filter(|queued| queued.number >= first && queued.entry.id == id)
-            .map(|queued| queued.entry.clone())
-            .collect();
+        let replay = self.queued_from(first, id);
         self.heard = either(Flip::SnapshotHeard, self.heard, Some(snapshot.time));
         let instrument = self.find_mut(id).expect("followed");
-        let answer = instrument.set_and_replay(snapshot.book, &replay);
-        self.settle(false);
-        answer
+        instrument.set_and_replay(snapshot.book, &replay)
+    }
+
+    /// The queued entries for an instrument with numbers from `first` on.
+    pub(crate) fn queued_from(&self, first: u64, id: u64) -> Vec<Entry> {
+        let after = self.queue.iter().filter(|queued| queued.number >= first && queued.entry.id == id);
+        after.map(|queued| queued.entry.clone()).collect()
     }
 }

@@ -1,6 +1,6 @@
 //! The making of calls: a seed gives a script that leads a store through true streams, losses,
-//! bursts, snapshots of every kind, bounds of every field, harm, questions good and bad, books
-//! aimed at the bounds of a lot's sum, and recordings to walk.
+//! bursts, snapshots of every kind, loops of them whole and broken, bounds of every field, harm,
+//! questions good and bad, books aimed at the bounds of a lot's sum, and recordings to walk.
 
 mod asks;
 mod bounds;
@@ -11,6 +11,7 @@ mod entries;
 mod exchange;
 mod faults;
 mod harm;
+mod loops;
 mod lots;
 mod night;
 mod rng;
@@ -36,6 +37,7 @@ enum Step {
     Recover,
     RecoverAll,
     SnapshotEdge,
+    Loop,
     Lose,
     Late,
     Burst,
@@ -59,12 +61,13 @@ enum Step {
 }
 
 /// How often each step is taken under each theme; a theme holds for a while.
-const WEIGHTS: [(Step, [u64; 6]); 24] = [
+const WEIGHTS: [(Step, [u64; 6]); 25] = [
     // calm, losses, bursts, bounds, harm, questions
     (Step::Next, [300, 200, 120, 120, 120, 80]),
     (Step::Recover, [60, 120, 40, 60, 60, 40]),
     (Step::RecoverAll, [14, 16, 10, 20, 20, 14]),
     (Step::SnapshotEdge, [20, 70, 40, 20, 20, 10]),
+    (Step::Loop, [30, 40, 24, 20, 18, 14]),
     (Step::Lose, [6, 40, 20, 6, 6, 6]),
     (Step::Late, [16, 50, 10, 10, 10, 10]),
     (Step::Burst, [1, 3, 14, 0, 0, 0]),
@@ -125,8 +128,8 @@ pub fn script(seed: u64, count: usize) -> Vec<Call> {
 const SEARCHED: usize = 3_000;
 
 /// The script of a seed up to a store that holds much, and then calls on that store with each of
-/// its 7,168 numbers in turn just outside its range: a message each time, another call at every
-/// fourth.
+/// its 7,168 numbers in turn just outside its range, and with loop records at the edges of theirs:
+/// a message each time, another call at every fourth.
 pub fn sweep(seed: u64) -> Vec<Call> {
     let mut calls = script(seed, SEARCHED);
     let mut keeper = Keeper::default();
@@ -140,24 +143,27 @@ pub fn sweep(seed: u64) -> Vec<Call> {
     }
     let later = calls.split_off(end);
     let is_ask = |call: &&Call| {
-        matches!(call.function(), Some("quote" | "sell" | "buy" | "write" | "state" | "board"))
+        let asks = matches!(call.function(), Some("quote" | "sell" | "buy" | "write" | "state" | "board"));
+        asks && !matches!(call, Call::Damage { .. })
     };
     let mut feeds = later.iter().filter(|call| matches!(call, Call::Feed { .. })).cycle();
     let mut asks = later.iter().filter(is_ask).cycle();
-    for (i, change) in damage::just_outside(&store).into_iter().enumerate() {
+    let singly = damage::just_outside(&store).into_iter().map(|change| vec![change]);
+    for (i, changes) in singly.chain(damage::loop_edges(&store)).enumerate() {
         let ask = if i % 4 == 0 { asks.next() } else { None };
         for call in feeds.next().into_iter().chain(ask) {
-            calls.push(Call::Damage { changes: vec![change], call: Box::new(call.clone()) });
+            calls.push(Call::Damage { changes: changes.clone(), call: Box::new(call.clone()) });
         }
     }
     calls
 }
 
-/// How many numbers of a store aren't zero, where it has both places and queued entries.
+/// How many numbers of a store aren't zero, where it has places, queued entries and a loop that
+/// runs.
 fn numbers_used(keeper: &Keeper) -> usize {
     let Some(channel) = &keeper.channel else { return 0 };
     let places = channel.instruments.iter().any(|instrument| !instrument.book.bids.is_empty());
-    if places && !channel.queue.is_empty() {
+    if places && !channel.queue.is_empty() && channel.running.is_some() {
         layout::words(channel).iter().filter(|word| **word != 0).count()
     } else {
         0
@@ -175,6 +181,7 @@ impl Generator {
             Step::Recover => self.recover(),
             Step::RecoverAll => self.recover_all(),
             Step::SnapshotEdge => self.snapshot_edge(),
+            Step::Loop => self.snapshot_loop(),
             Step::Lose => self.lose(),
             Step::Late => self.late(),
             Step::Burst => self.burst(),

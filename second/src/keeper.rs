@@ -73,7 +73,10 @@ impl Keeper {
         if !long {
             return STORE;
         }
-        self.channel = Some(Channel::open(depth, ids));
+        let before = self.channel.take().filter(|_| on(Flip::LoopOpeningLeaves));
+        let mut opened = Channel::open(depth, ids);
+        opened.running = before.and_then(|channel| channel.running);
+        self.channel = Some(opened);
         DONE
     }
 
@@ -81,8 +84,8 @@ impl Keeper {
     pub fn feed(&mut self, store_n: u64, message: &[u8]) -> (u64, u64) {
         match &mut self.channel {
             Some(channel) if is_long(store_n) => {
-                let answer = channel.feed(message);
-                (answer, channel.waiting() as u64)
+                let (answer, waiting) = channel.feed(message);
+                (answer, waiting as u64)
             }
             _ => (STORE, 0),
         }

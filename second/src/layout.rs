@@ -8,11 +8,13 @@ use crate::days::{civil, day_of, ALL_DAYS};
 use crate::field::{LARGEST_ID, LARGEST_NUMBER};
 use crate::flip::{either, on, Flip};
 use crate::instrument::Instrument;
+use crate::loops::Loop;
 
 /// The store's numbers.
 pub const NUMBERS: usize = 7_168;
-/// The number of this layout.
-pub const LAYOUT: u64 = 4_601;
+/// The number of this layout, and that of the one before it.
+pub const LAYOUT: u64 = 4_602;
+pub const OLDER_LAYOUT: u64 = 4_601;
 
 pub const AT_LAYOUT: usize = 0;
 pub const AT_DEPTH: usize = 1;
@@ -22,8 +24,13 @@ pub const AT_B: usize = 4;
 pub const AT_HEARD: usize = 5;
 pub const AT_MARKS: usize = 6;
 pub const AT_QUEUED: usize = 7;
+/// The loop record: 911, how many W have come, the lowest 369, the instruments named (a bit each).
+pub const AT_REPORTS: usize = 8;
+pub const AT_COME: usize = 9;
+pub const AT_LOWEST: usize = 10;
+pub const AT_NAMED: usize = 11;
 /// Numbers of the heading that are used.
-pub const HEADING: usize = 8;
+pub const HEADING: usize = 12;
 /// The most instruments that are followed.
 pub const MOST_FOLLOWED: usize = 16;
 /// Numbers of a place: price, size, by, more, moment.
@@ -74,6 +81,7 @@ pub fn words(channel: &Channel) -> Vec<u64> {
 
 fn heading_words(channel: &Channel) -> [u64; HEADING] {
     let marks = channel.instruments.iter().enumerate().map(|(i, x)| u64::from(x.waiting) << i).sum();
+    let [reports, come, lowest, named] = loop_words(channel);
     [
         LAYOUT,
         channel.depth as u64,
@@ -83,7 +91,19 @@ fn heading_words(channel: &Channel) -> [u64; HEADING] {
         channel.heard.map_or(0, |heard| moment_word(heard.date, heard.time)),
         marks,
         channel.queue.len() as u64,
+        reports,
+        come,
+        lowest,
+        named,
     ]
+}
+
+/// The loop record; zeros where no loop runs.
+fn loop_words(channel: &Channel) -> [u64; 4] {
+    let Some(running) = &channel.running else { return [0; 4] };
+    let bit = |(i, x): (usize, &Instrument)| u64::from(running.named.contains(&x.id)) << i;
+    let named = channel.instruments.iter().enumerate().map(bit).sum();
+    [running.reports, running.come, running.lowest, named]
 }
 
 fn put_side(words: &mut [u64], places: &[Place]) {
@@ -159,8 +179,23 @@ fn action_words(action: &Action) -> (u64, u64, [u64; PLACE]) {
 /// The channel of a store; none where it is unsound.
 pub fn read(store: &[u64]) -> Option<Channel> {
     let channel = read_channel(store)?;
+    let mut words = words(&channel);
+    pass_flipped(&mut words, store);
     // An unused place, queue entry or instrument is zero, as is every spare number.
-    (words(&channel) == store[..NUMBERS] || on(Flip::UnsoundUnused)).then_some(channel)
+    (words == store[..NUMBERS] || on(Flip::UnsoundUnused)).then_some(channel)
+}
+
+/// Takes over the numbers that a flip passes.
+fn pass_flipped(words: &mut [u64], store: &[u64]) {
+    if on(Flip::UnsoundOlder) && store[AT_LAYOUT] == OLDER_LAYOUT {
+        words[AT_LAYOUT] = OLDER_LAYOUT;
+    }
+    if on(Flip::UnsoundLoopNamed) || on(Flip::UnsoundRepeats) {
+        words[AT_NAMED] = store[AT_NAMED];
+    }
+    if on(Flip::UnsoundLoopRest) && words[AT_REPORTS] == 0 {
+        words[AT_REPORTS..HEADING].copy_from_slice(&store[AT_REPORTS..HEADING]);
+    }
 }
 
 /// The channel of numbers that are in their ranges and fit together.
@@ -182,7 +217,27 @@ fn read_channel(store: &[u64]) -> Option<Channel> {
     if none_waits && (!queue.is_empty() || behind) {
         return None;
     }
-    Some(Channel { depth, h, b, heard, instruments, queue })
+    let running = read_loop(store, &instruments)?;
+    Some(Channel { depth, h, b, heard, instruments, queue, running })
+}
+
+/// The loop record: 911 is 2 to 4,294,967,295, fewer than 911 W have come, but at least one, and
+/// the lowest 369 is in its range. `Some(None)` where no loop runs.
+fn read_loop(store: &[u64], instruments: &[Instrument]) -> Option<Option<Loop>> {
+    let (reports, come, lowest) = (store[AT_REPORTS], store[AT_COME], store[AT_LOWEST]);
+    if reports == 0 {
+        // The three others must then be zero too, which the store's own words tell.
+        return Some(None);
+    }
+    let most_reports = either(Flip::UnsoundLoopReports, LARGEST_NUMBER, LARGEST_NUMBER + 1);
+    let least_come = either(Flip::UnsoundLoopNoneCome, 1, 0);
+    let most_come = either(Flip::UnsoundLoopWhole, reports - 1, reports);
+    let most_lowest = either(Flip::UnsoundLoopLowest, LARGEST_NUMBER, LARGEST_NUMBER + 1);
+    let in_range =
+        reports <= most_reports && (least_come..=most_come).contains(&come) && lowest <= most_lowest;
+    let named = |(i, _): &(usize, &Instrument)| store[AT_NAMED] >> i & 1 == 1;
+    let named = instruments.iter().enumerate().filter(named).map(|(_, x)| x.id).collect();
+    in_range.then_some(Some(Loop { reports, come, lowest, named }))
 }
 
 /// 1 to 16 instruments that don't repeat, with a mark each.

@@ -5,6 +5,7 @@ use std::process::ExitCode;
 
 use selkavorn_second::compare::{compare, flipped, flips_found, Driver, Outcome};
 use selkavorn_second::flip::FLIPS;
+use selkavorn_second::happenings::Happenings;
 use selkavorn_second::keeper::Keeper;
 use selkavorn_second::run::{run, run_plainly};
 use selkavorn_second::script::{read_script, script_text, Call};
@@ -106,13 +107,15 @@ fn generate(seed: &str, count: &str) -> Result<ExitCode, String> {
     output(&script_text(&gen::script(number(seed)?, number(count)? as usize)))
 }
 
-/// Prints how often each answer number is reached.
+/// Prints how often each answer number is reached, and each happening of loops.
 fn stats(first: &str, last: &str, count: &str) -> Result<ExitCode, String> {
-    let mut histogram = Histogram::default();
+    let (mut answers, mut happenings) = (Histogram::default(), Happenings::default());
     for seed in number(first)?..=number(last)? {
-        histogram.add(&run(&gen::script(seed, number(count)? as usize)));
+        let calls = gen::script(seed, number(count)? as usize);
+        answers.add(&run(&calls));
+        happenings.add(&calls);
     }
-    output(&histogram.text())
+    output(&format!("{}\n{}", answers.text(), happenings.text()))
 }
 
 /// The calls of these functions alone, where some are named; lines that call none stay.

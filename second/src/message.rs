@@ -23,6 +23,8 @@ pub struct Snapshot {
     pub time: Moment,
     pub id: u64,
     pub last: u64,
+    /// 911, how many W its loop has.
+    pub reports: u64,
     pub book: Book,
 }
 
@@ -106,10 +108,10 @@ fn read_w(middle: &[Field], depth: Depth) -> Option<Snapshot> {
     let most = either(Flip::LastPastEnd, LARGEST_NUMBER, LARGEST_NUMBER + 1);
     let last = field::whole(entry::value(head, 369)?, 0, most)?;
     let most = either(Flip::ReportsPastEnd, LARGEST_NUMBER, LARGEST_NUMBER + 1);
-    field::whole(entry::value(head, 911)?, either(Flip::ReportsZero, 1, 0), most)?;
+    let reports = field::whole(entry::value(head, 911)?, either(Flip::ReportsZero, 1, 0), most)?;
     let cut = entry::cut(group, 269, &entry::W_ENTRY, count)?;
     let book = read_book(&cut, depth)?;
-    Some(Snapshot { number, time, id, last, book })
+    Some(Snapshot { number, time, id, last, reports, book })
 }
 
 /// In W the positions on each side run 1, 2, 3 in the order written; J and others are passed over.

@@ -3,7 +3,7 @@
 //! | line | call |
 //! |---|---|
 //! | `open ANSWER`, then the store's sum after a 0 | opening |
-//! | `feed ANSWER WAITING`, then the store's sum after a 0, 1, 3, 4 or 10 | feed |
+//! | `feed ANSWER WAITING`, then the store's sum after a 0, 1 or 3 to 10 | feed |
 //! | `quote ANSWER`, then 17 numbers after a 0 | quote |
 //! | `sell ANSWER` or `buy ANSWER`, then 5 numbers after a 0 | lot |
 //! | `write ANSWER LENGTH`, then the bytes after a 0 | writing |
@@ -16,16 +16,17 @@
 //!
 //! The sum is one number of 16 hex digits that stands for all 7,168 numbers of the store.
 
-use crate::answer::{DONE, GAP, LET_GO, REPLAY_BROKE, TAKEN};
+use crate::answer::{DONE, GAP, LET_GO, REPLAY_BROKE};
 use crate::keeper::{Keeper, Writing};
 use crate::layout;
 use crate::lot::Lot;
 use crate::salvage::salvage;
 use crate::script::{bytes_text, Call};
 
-/// Only 0, 1, 3, 4 and 10 change the store.
+/// Only 0, 1 and 3 to 10 change the store: 5 to 9 the loop record and, at a loop's end, the
+/// instruments that it did not name.
 fn changes_store(answer: u64) -> bool {
-    [DONE, GAP, LET_GO, TAKEN, REPLAY_BROKE].contains(&answer)
+    [DONE, GAP].contains(&answer) || (LET_GO..=REPLAY_BROKE).contains(&answer)
 }
 
 /// `NAME 0` and the numbers, or `NAME ANSWER`.

@@ -53,6 +53,31 @@ fn lower(call: &mut Call, number: u64) {
     }
 }
 
+/// The script without one W: of those with the same 911, that and the later 34 lowered by one.
+pub fn without_turn(calls: &[Call], place: usize) -> Option<Vec<Call>> {
+    let draft = draft_of(&calls[place]).filter(|draft| is_snapshot(&draft.fields))?;
+    let (number, reports) = (told(&draft.fields, "34")?, told(&draft.fields, "911")?);
+    let mut shorter = calls.to_vec();
+    shorter.remove(place);
+    shorter.iter_mut().for_each(|call| lower_turn(call, number, reports));
+    Some(shorter)
+}
+
+/// Lowers 911 of a W of such a loop, and its 34 if it is above `number`.
+fn lower_turn(call: &mut Call, number: u64, reports: u64) {
+    let of_loop = |draft: &Draft| {
+        is_snapshot(&draft.fields) && reports > 1 && told(&draft.fields, "911") == Some(reports)
+    };
+    let Some(mut draft) = draft_of(call).filter(of_loop) else { return };
+    set(&mut draft.fields, "911", reports - 1);
+    if let Some(told) = told(&draft.fields, "34").filter(|told| *told > number) {
+        set(&mut draft.fields, "34", told - 1);
+    }
+    if let Call::Feed { message, .. } = call {
+        *message = draft.seal();
+    }
+}
+
 /// Shortens the message of one call: entries first, then single fields.
 pub fn shorten_message(calls: &mut Vec<Call>, place: usize, shows: Shows<Call>) {
     let Some(whole) = draft_of(&calls[place]) else { return };

@@ -2,7 +2,9 @@
 //! recordings, and lots are made smaller.
 
 use crate::script::Call;
-use crate::shorten::{lower_quantity, shorten_changes, shorten_message, shorten_walk, without_number};
+use crate::shorten::{
+    lower_quantity, shorten_changes, shorten_message, shorten_walk, without_number, without_turn,
+};
 
 /// What a shortened list must still show.
 pub type Shows<'a, T> = &'a mut dyn FnMut(&[T]) -> bool;
@@ -54,13 +56,13 @@ fn leave_out_runs<T: Clone>(kept: &mut Vec<T>, run: usize, shows: Shows<T>) {
     }
 }
 
-/// Tries to leave out each counted message with the later numbers lowered, so that no gap opens.
+/// Tries to leave out each counted message with the later numbers lowered, so that no gap opens,
+/// and each W with its loop made shorter.
 fn leave_out_numbers(kept: &mut Vec<Call>, shows: Shows<Call>) {
     for place in (0..kept.len()).rev() {
-        if let Some(shorter) = without_number(kept, place) {
-            if shows(&shorter) {
-                *kept = shorter;
-            }
+        let shorter = without_number(kept, place).or_else(|| without_turn(kept, place));
+        if let Some(shorter) = shorter.filter(|shorter| shows(shorter)) {
+            *kept = shorter;
         }
     }
 }

@@ -27,10 +27,10 @@ fn entries(side: u32, rows: &[Row]) -> String {
     (1..).zip(rows).map(entry).collect()
 }
 
-/// A W of instrument 7 as of number `last`.
+/// A W of instrument 7 as of number `last`, the first of a loop of two.
 fn w(last: u64, bids: &[Row], offers: &[Row]) -> Vec<u8> {
     let (n, group) = (bids.len() + offers.len(), entries(0, bids) + &entries(1, offers));
-    message(&format!("35=W|34=1|52=20250103-14:00:00|48=7|22=8|369={last}|911=1|268={n}|{group}"))
+    message(&format!("35=W|34=1|52=20250103-14:00:00|48=7|22=8|369={last}|911=2|268={n}|{group}"))
 }
 
 /// A board that has heard message 1, with 7 Live and 8 Waiting.

@@ -33,11 +33,11 @@ fn bid(action: u32, position: usize) -> String {
     format!("279={action}|269=0|48=7|22=8|290={position}|270=24.01|271=5|37=A|272=20250103|273=12:00:00|")
 }
 
-/// A W of instrument 7 with `bids` bids.
+/// A W of instrument 7 with `bids` bids, the first of a loop of two.
 fn w(last: u64, bids: usize) -> Vec<u8> {
     let entry = |p| format!("269=0|270=1|271=5|37=A|272=20250103|273=12:00:00|290={p}|");
     let group: String = (1..=bids).map(entry).collect();
-    message(&format!("35=W|34=1|52=20250103-14:00:00|48=7|22=8|369={last}|911=1|268={bids}|{group}"))
+    message(&format!("35=W|34=1|52=20250103-14:00:00|48=7|22=8|369={last}|911=2|268={bids}|{group}"))
 }
 
 /// An opened order-depth keeper that follows these instruments.
@@ -189,6 +189,6 @@ fn longest_w() -> Vec<u8> {
         format!("269={side}|270=-999999999.9999999|271=999999999999|37=ABCDEFGHIJKLMNOP|272=99991231|273=23:59:60.999|290={p}|")
     };
     let side = |side| (1..=20).map(|p| entry(side, p)).collect::<String>();
-    let head = "34=1|52=20250103-13:00:00|48=999999999999999999|22=8|369=4294967295|911=1|268=40|";
+    let head = "34=1|52=20250103-13:00:00|48=999999999999999999|22=8|369=4294967295|911=2|268=40|";
     message(&format!("35=W|{head}{}{}", side(0), side(1)))
 }

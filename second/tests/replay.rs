@@ -8,7 +8,7 @@ fn bytes(text: &str) -> Vec<u8> {
     text.bytes().map(|byte| if byte == b'|' { 1 } else { byte }).collect()
 }
 
-const SNAPSHOT: &str = "8=FIX.4.4|9=88|35=W|49=SHED|56=YARD|34=1|52=20250103-13:00:00.000|48=7|22=8|207=BVMF|369=0|911=1|268=0|10=029|";
+const SNAPSHOT: &str = "8=FIX.4.4|9=88|35=W|49=SHED|56=YARD|34=1|52=20250103-13:00:00.000|48=7|22=8|207=BVMF|369=0|911=2|268=0|10=030|";
 
 #[test]
 fn messages_end_with_tag_10() {
@@ -24,6 +24,5 @@ fn a_snapshot_is_written_as_it_was_read() {
     let lines = run(&calls(&bytes(SNAPSHOT), &asked));
     assert!(lines[0].starts_with("open 0"));
     assert!(lines[1].starts_with("feed 4 1"));
-    let written = SNAPSHOT.replace("911=1", "911=2").replace("10=029", "10=030");
-    assert_eq!(lines[2..], ["quote 22", &format!("write 0 110 {written}"), "quote 21", "write 21 0"]);
+    assert_eq!(lines[2..], ["quote 22", &format!("write 0 110 {SNAPSHOT}"), "quote 21", "write 21 0"]);
 }

@@ -101,8 +101,20 @@ fn heading_range(store: &[u64], i: usize) -> (u64, u64) {
         AT_HEARD if h > 0 => (0, MOMENTS - 1),
         AT_HEARD => (0, 0),
         AT_MARKS => (0, (1 << store[AT_FOLLOWED]) - 1),
+        AT_REPORTS..=AT_NAMED => loop_range(store, i),
         // Another layout's number; or a count that leaves something unused or something missing.
         _ => (store[i], store[i]),
+    }
+}
+
+/// The numbers of the loop record: all zero where no loop runs.
+fn loop_range(store: &[u64], i: usize) -> (u64, u64) {
+    match i {
+        _ if store[AT_REPORTS] == 0 => (0, 0),
+        AT_REPORTS => (store[AT_COME] + 1, 4_294_967_295),
+        AT_COME => (1, store[AT_REPORTS] - 1),
+        AT_LOWEST => (0, 4_294_967_295),
+        _ => (0, (1 << store[AT_FOLLOWED]) - 1),
     }
 }
 
@@ -171,7 +183,7 @@ fn some_index(rng: &mut Rng, store: &[u64]) -> usize {
             at + rng.below(2 + PLACE * store[at] as usize)
         }
         6 | 7 => slot(rng.below(256.min(queued + 1))) + rng.below(11),
-        8 => *rng.pick(&[8, 31, 32 + 128 - 1, 160 + 128 * 32 - 1, 4_256 + 2_816 - 1, 7_072, 7_167]),
+        8 => *rng.pick(&[12, 31, 32 + 128 - 1, 160 + 128 * 32 - 1, 4_256 + 2_816 - 1, 7_072, 7_167]),
         _ => rng.below(NUMBERS),
     }
 }
@@ -228,7 +240,7 @@ fn change_heading(rng: &mut Rng, store: &[u64]) -> Changes {
     let (h, b, marks) = (store[AT_H], store[AT_B], store[AT_MARKS]);
     let (followed, queued) = (store[AT_FOLLOWED], store[AT_QUEUED]);
     let one = |at: usize, value: u64| vec![(at as u64, value)];
-    match rng.below(12) {
+    match rng.below(13) {
         0 => one(AT_B, h + 1),
         1 => one(AT_B, h.saturating_sub(1)),
         2 => one(AT_H, b.saturating_sub(1)),
@@ -240,8 +252,36 @@ fn change_heading(rng: &mut Rng, store: &[u64]) -> Changes {
         8 => one(AT_FOLLOWED, *rng.pick(&[followed + 1, followed - 1, 0, 16, 17])),
         9 => one(AT_DEPTH, 1 - store[AT_DEPTH]),
         10 => [one(AT_H, 0), one(AT_B, 0), one(AT_HEARD, rng.between(0, 1))].concat(),
+        11 => one(AT_LAYOUT, *rng.pick(&[OLDER_LAYOUT, OLDER_LAYOUT, LAYOUT + 1, 0])),
         _ => one(AT_H, h + rng.between(1, 3)),
     }
+}
+
+/// Loop records at the edges of their ranges, just inside and just outside: where one runs and
+/// where none does.
+pub fn loop_edges(store: &[u64]) -> Vec<Vec<(u64, u64)>> {
+    let most = 4_294_967_295;
+    let all = (1 << store[AT_FOLLOWED]) - 1;
+    #[rustfmt::skip]
+    let records = [
+        [0, 0, 0, 0], [1, 0, 0, 0], [0, 1, 0, 0], [0, 0, 1, 0], [0, 0, 0, 1], [0, 1, 1, 1], [1, 1, 0, 0],
+        [1, 1, 1, 1], [2, 0, 0, 0], [2, 1, 0, 0], [2, 2, 0, 0], [3, 2, 5, all], [3, 3, 5, all], [3, 4, 5, all],
+        [most, 1, 0, 0], [most, most - 1, 0, 1], [most, most, 0, 1], [most + 1, 1, 0, 0],
+        [most + 1, most, 0, 0], [u64::MAX, 1, 0, 0], [2, 1, most, 0], [2, 1, most + 1, 0],
+        [2, 1, u64::MAX, 0], [2, 1, 0, all], [2, 1, 0, all + 1], [2, 1, 0, 1 << 16], [2, 1, 0, 1 << 63],
+        [2, u64::MAX, 0, 0],
+    ];
+    records.iter().map(|record| set_run(AT_REPORTS, record)).collect()
+}
+
+/// A loop record put in place of the one that runs or does not run.
+fn change_loop(rng: &mut Rng, store: &[u64]) -> Changes {
+    if rng.chance(70) {
+        return rng.pick(&loop_edges(store)).clone();
+    }
+    let reports = rng.between(1, 20);
+    let (come, lowest) = (rng.between(0, reports), rng.between(0, store[AT_H] + 1));
+    set_run(AT_REPORTS, &[reports, come, lowest, rng.between(0, 1 << store[AT_FOLLOWED])])
 }
 
 /// Instruments that repeat, that are not there, or one more.
@@ -334,8 +374,9 @@ fn change_order_id(rng: &mut Rng, store: &[u64]) -> Changes {
 
 /// Changes to a store that was opened.
 fn some_changes(rng: &mut Rng, store: &[u64]) -> Changes {
-    match rng.below(12) {
+    match rng.below(14) {
         0..=4 => some_numbers(rng, store),
+        12 | 13 => change_loop(rng, store),
         5 | 6 => change_heading(rng, store),
         7 => change_instruments(rng, store),
         8 => change_side(rng, store),
@@ -356,6 +397,9 @@ impl Generator {
             };
             let call = Box::new(self.some_call(&message));
             self.call(Call::Damage { changes, call });
+        }
+        if self.channel().is_some() {
+            self.feed_to_changed_loop();
         }
         self.feed(message);
     }

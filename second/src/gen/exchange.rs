@@ -214,6 +214,18 @@ impl Exchange {
         draft
     }
 
+    /// An X with an entry for an instrument that fits no book.
+    pub fn next_unfitting(&mut self, rng: &mut Rng, index: usize) -> Draft {
+        self.tick(rng);
+        let (id, action) = (self.ids[index], rng.between(0, 4) as u32);
+        let entry = Entry::Side { id, side: rng.below(2), action, position: 65_535, row: Row::some(rng) };
+        let mut draft = self.headed(rng, "X");
+        entries::open_group(rng, &mut draft.fields, 1);
+        draft.fields.extend(entry.fields(rng, self.depth));
+        self.remember();
+        draft
+    }
+
     /// An instrument: mostly one of the followed ones.
     fn some_instrument(&self, rng: &mut Rng, who: Who) -> usize {
         let others = self.ids.len() - self.followed;

@@ -9,10 +9,22 @@ use super::{clock, Generator};
 use crate::answer::REPLAY_BROKE;
 
 impl Generator {
-    /// A W of an instrument with this 369 and this book.
+    /// A W of an instrument with this 369 and this book; its 34 and 911 are any.
     pub(super) fn snapshot_draft(&mut self, index: usize, last: u64, book: &TrueBook) -> Draft {
         let reports = 1 + self.rng.below(16) as u64;
         let number = if self.rng.chance(5) { LAST_NUMBER } else { 1 + self.rng.below(20) as u64 };
+        self.numbered_snapshot(index, last, book, number, reports)
+    }
+
+    /// A W of an instrument with this 369 and this book, 34 and 911.
+    pub(super) fn numbered_snapshot(
+        &mut self,
+        index: usize,
+        last: u64,
+        book: &TrueBook,
+        number: u64,
+        reports: u64,
+    ) -> Draft {
         let later = self.rng.below(5000) as i64;
         let time = clock::some_text(&mut self.rng, self.exchange.clock_ms + later);
         let head = SnapshotHead { number, time, id: self.exchange.ids[index], last, reports };
