@@ -14,7 +14,8 @@ struct heading board_heading(const struct board *board)
     selkavorn_board(board->store, SELKAVORN_STORE_NUMBERS, out, SELKAVORN_BOARD_NUMBERS);
     return (struct heading){.number = out[SELKAVORN_BOARD_NUMBER],
                             .date = out[SELKAVORN_BOARD_HEARD_DATE],
-                            .time = out[SELKAVORN_BOARD_HEARD_TIME]};
+                            .time = out[SELKAVORN_BOARD_HEARD_TIME],
+                            .marks = out[SELKAVORN_BOARD_MARKS]};
 }
 
 uint64_t judge(const struct request *request, const struct piece *message)

@@ -20,16 +20,17 @@ struct board {
     char names[SELKAVORN_MOST_INSTRUMENTS][NAME_TEXT]; /* of the instruments; "" where unknown */
 };
 
-/* What a board has counted. */
+/* What a board has counted, and which instruments wait. */
 struct heading {
     uint64_t number;     /* of the last counted message, 0 where there is none */
     uint64_t date, time; /* its tag 52, as a quote gives them */
+    uint64_t marks;      /* bit i is 1 if instrument i of the request, from 0, waits */
 };
 
 /* Opens the board with the depth and the instruments of the request; gives the library's answer. */
 uint64_t board_open(struct board *board, const struct request *request);
 
-/* Says what the board has counted; nothing where the library refuses the store. */
+/* Says what the board has counted and who waits; nothing where the library refuses the store. */
 struct heading board_heading(const struct board *board);
 
 /* Feeds a message to a board that is kept for this alone: its answers 13 and 14 are those of every

@@ -23,7 +23,12 @@ static const char COMMANDS[] =
     "FILE holds messages end to end, - is standard input: the incremental stream,\n"
     "and the snapshots (W) of its snapshot stream if they are not in a file of their\n"
     "own. Unless it is salvaged it must not hold the heartbeats of the snapshot\n"
-    "stream: their numbers would be counted.\n";
+    "stream: their numbers would be counted.\n"
+    "\n"
+    "The exchange sends no snapshot of an empty book. At the end of a whole loop of\n"
+    "snapshots (34 = 1, 2 and so on to 911, each once and in order) an instrument\n"
+    "that waits and that the loop does not name goes Live with an empty book. So does\n"
+    "one that the channel does not have.\n";
 
 static const char OPTIONS[] =
     "\n"
@@ -54,7 +59,9 @@ static const char OPTIONS[] =
     "snapshot:\n"
     "  --sender NAME          tag 49, 1 to 16 bytes\n"
     "  --target NAME          tag 56, likewise\n"
-    "  --number K, --of M     tags 34 and 911, 1 to 16; 1 and 1 unless given\n"
+    "  --number K, --of M     tags 34 and 911, 1 to 16; M is 16 and K is M unless\n"
+    "                         given. 1 of 1 is a whole loop: what it does not name\n"
+    "                         is taken for empty\n"
     "  --time MOMENT          tag 52; unless given, the heard moment\n"
     "salvage:\n"
     "  --keep OUT             write the whole messages end to end to a new file\n"

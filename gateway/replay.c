@@ -5,6 +5,7 @@
 #include <stdio.h>
 #include <string.h>
 
+#include "loops.h"
 #include "message.h"
 #include "names.h"
 #include "progress.h"
@@ -26,6 +27,7 @@ struct replay {
     struct board *board;
     const struct request *request;
     struct streams *streams;
+    struct loops loops;
     struct totals totals;
 };
 
@@ -112,12 +114,14 @@ static uint64_t feed(struct replay *replay, const struct piece *message)
 {
     struct board *board = replay->board;
     struct heading before = board_heading(board);
+    loops_before(&replay->loops, board, replay->request, message, &before);
     uint64_t answered = selkavorn_feed(board->store, SELKAVORN_STORE_NUMBERS, message->bytes,
                                        (size_t)message->length);
     uint64_t answer = SELKAVORN_ANSWER(answered);
     remember(replay, message, answer);
     if (!replay->request->quote_only)
         print_message(replay, message, answered, &before);
+    loops_after(&replay->loops, board, replay->request, message, answer);
     if (is_reset(message, answer))
         take_reset(replay, message);
     if (!shows_lost_reset(replay->request, &before, message, answer))
@@ -166,6 +170,9 @@ static void print_totals(const struct replay *replay)
     if (is_table && replay->request->snapshots != NULL)
         printf("Messages of the snapshot stream that are no snapshots, left out: %" PRIu64 ".\n",
                replay->streams->left_out);
+    if (is_table && replay->loops.taken > 0)
+        printf("Empty books taken at the end of whole loops of snapshots: %" PRIu64 ".\n",
+               replay->loops.taken);
     if (totals->resets_passed > 0)
         fprintf(to,
                 "Sequence resets passed over: %" PRIu64 ". If one was of the incremental stream, "

@@ -11,6 +11,11 @@
  * not functional (its specification, 5.1.1), so an older quote is not given unless asked for. */
 enum { USUAL_LIMIT_S = 30, LONGEST_SILENCE_S = 86400 };
 
+/* The last of the longest loop that can be written: what is written is then no whole loop by
+ * itself, begins none, and ends only one of as many. A board that is fed a whole loop takes all
+ * else that waits for empty. */
+enum { USUAL_OF = 16 };
+
 _Noreturn void bad_use(const char *what, const char *word)
 {
     fprintf(stderr, "selkavorn: %s: %s\nTry: selkavorn --help\n", word, what);
@@ -345,8 +350,10 @@ void read_command(struct request *request, int argc, char **argv)
                                 .depth = SELKAVORN_ORDER_DEPTH,
                                 .limit_s = USUAL_LIMIT_S,
                                 .quote_only = COMMANDS[command].command != COMMAND_REPLAY,
-                                .writing = {.number = 1, .of = 1}};
+                                .writing = {.of = USUAL_OF}};
     take_words(request, argc, argv);
+    if (request->writing.number == 0)
+        request->writing.number = request->writing.of;
     if (request->path == NULL)
         bad_use("no file is named", COMMANDS[command].name);
     COMMANDS[command].check(request);

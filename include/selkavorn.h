@@ -1,4 +1,4 @@
-/* Selkavorn 1.2: keeps the order books of one exchange channel and gives dated quotes.
+/* Selkavorn 2.0: keeps the order books of one exchange channel and gives dated quotes.
  *
  * This is the header of the books. Its functions are proved, and stand in libselkavorn.a (x86-64
  * Linux), as do those of selkavorn_lots.h, which say what a quantity brings down a book.
@@ -18,10 +18,13 @@
  *   followed   an instrument that was named at opening. Entries for others are passed over.
  *   Live       the book is the exchange's as of message H, if the duties below are kept and the
  *              exchange's own stream does not break it.
- *   Waiting    the book is empty and is not to be used; it waits for a snapshot.
+ *   Waiting    the book is empty and is not to be used; it waits for a snapshot, or for a whole
+ *              loop that does not name it.
  *   broken     an entry did not fit its side (no such place, or no room among 20): the instrument
  *              is emptied and waits, with a reason. Others are not touched.
  *   snapshot   a W message: the book of one instrument as of the number S in its tag 369.
+ *   loop       W messages in a row with 34 = 1, 2 and so on up to 911, and one 911 throughout. It
+ *              is whole when the last of them has come. It names the instruments in their tags 48.
  *   queue      while any instrument waits, entries are kept, at most 256, so that a snapshot that
  *              is older than H can be brought up to H. If they would be more, they are let go.
  *   B          the queue holds everything from B + 1 to H. A snapshot serves if S is in B to H.
@@ -37,18 +40,33 @@
  *   other tags are passed over. Other types are refused (13) and not counted: if such a message has
  *   a number of the incremental stream, the next one shows a gap.
  *
+ * Instruments with no snapshot ("A whole loop")
+ *   The exchange sends no snapshot of an empty book. So at the end of a whole loop each followed
+ *   instrument that waits and that the loop does not name takes an empty snapshot, with S the
+ *   lowest 369 of the loop, if S is in B to H: the queued entries above S are applied to an empty
+ *   book, and it is Live. If one does not fit it stays Waiting, with the reason. If S is not in B
+ *   to H nothing changes, and it waits for the next whole loop.
+ *   Every W that is answered 4 to 10 is in the row, whether it is followed and taken or not. One
+ *   that does not go on with the loop drops it, and begins another if its own 34 is 1; with
+ *   911 = 1 that is whole at once. A W that is answered 11 to 14 is not in the row. Messages of
+ *   other types may lie between, and a gap drops no loop; selkavorn_open does. The answer is that
+ *   of the W itself; the number of Waiting instruments beside it is the one after all this.
+ *   Supposed is that an instrument which a whole loop does not name had an empty book as of the
+ *   lowest 369 of that loop. The library cannot see whether that is so: see duties 8 and 9.
+ *
  * The store
  *   All books live in one run of 64-bit numbers that the caller lends to every call: the store. It
  *   has at least SELKAVORN_STORE_NUMBERS numbers. Its contents are the library's alone: read and
  *   change them only by these calls. Numbers beyond the first SELKAVORN_STORE_NUMBERS are never
  *   read or written. A store holds no address, so a copy of a store is a store of its own. Nothing
  *   is kept outside it: the library allocates nothing and has no variables. A store that was
- *   damaged, or that another version wrote in another layout, is refused (17).
+ *   damaged, or that another version wrote in another layout, is refused (17) until it is opened
+ *   afresh; versions before 2.0 have another layout.
  *
  * Duties of the caller
  *   1. Feed the incremental stream whole, in the order in which it comes, and the W messages of its
- *      snapshot stream, at any point between them. One call takes one message. One that comes
- *      again, as from a second line, does no harm.
+ *      snapshot stream, at any point between them. One call takes one message. One with
+ *      a number that comes again, as from a second line, does no harm; of a W see duty 8.
  *   2. Do not feed the other messages of the snapshot stream, its heartbeats (35=0) above all, nor
  *      any other stream: their numbers (34) would be counted as those of the incremental stream.
  *   3. After a sequence reset (35=4) on the incremental stream its numbers start anew: call
@@ -65,6 +83,18 @@
  *      multiple of 8 bytes. Each run has at least as many elements as its count says.
  *   7. Take "now" from a clock that is right, in the time zone of tag 52, which is UTC. The age of
  *      a quote is no better than that clock.
+ *   8. Feed the W messages of the snapshot stream as one line brings them: all of them, each once,
+ *      in the order in which they come. One that is left out, comes again or comes late drops the
+ *      loop that runs, and an instrument with no snapshot waits for the next whole one; or, where
+ *      its 34 is the next, that loop goes on with it, and is then made of the parts of two (duty
+ *      9). Where two lines bring the same snapshots, feed those of one.
+ *   9. See that a whole loop is the exchange's, since what it does not name is taken for empty.
+ *      Follow instruments of this channel alone: another is never named, and goes Live with an
+ *      empty book. Feed no W of another maker in a loop of the exchange's: 34 = 1 with 911 = 1 is a
+ *      whole loop by itself, and 34 = 911 = m ends one of m of which the others have come
+ *      (selkavorn_write writes what its k and m say). And where as many W messages are lost in a
+ *      row as a loop has, or a multiple, the parts of two loops make one whole one: if they were
+ *      sent (52) further apart than those of a loop are, feed none up to the next with 34 = 1.
  *
  * Arguments
  *   A run is a pointer and a count of its elements: of numbers for a run of uint64_t, of bytes for
@@ -82,16 +112,24 @@
  * What a call costs
  *   Every call on a store but selkavorn_open reads its first 7,168 numbers once, to see that they
  *   are sound; selkavorn_open writes them once. A feed then takes time by the length of its
- *   message, and selkavorn_salvage by the bytes that it walks. At most 16,168 bytes of stack were
- *   used in any call that was measured, and 24,576 is the budget. docs/BENCH.md has times.
+ *   message, a W that is taken by that of the queue too, and one that ends a loop as much again
+ *   for each instrument that takes an empty snapshot. selkavorn_salvage takes time by the bytes
+ *   that it walks. At most 17,400 bytes of stack were used in any call that was measured, and
+ *   24,576 is the budget. docs/BENCH.md has times.
  *
  * Answers
  *   Every call answers a number of enum selkavorn_answer; selkavorn_feed and selkavorn_write put a
  *   second number above it (SELKAVORN_ANSWER, SELKAVORN_WAITING_COUNT, SELKAVORN_LENGTH).
  *   Checks run in this order: 17, 18, 11 to 14, then the rest in the order of the enum.
  *   selkavorn_lots.h has one more 18, of its own place in that order.
- *   Only selkavorn_open with 0 and selkavorn_feed with 0, 1, 3, 4 and 10 change the store. Any
- *   other answer is a refusal: store and output are left as they were, to the last number and byte.
+ *   What each does to the store:
+ *     0 of selkavorn_open, and 0, 1, 3, 4 and 10 of selkavorn_feed change it, as they say.
+ *     5 to 9 refuse a snapshot, and its own instrument stays as it was. The store remembers that
+ *     the W came in its loop, or dropped or began one. Where it ends a whole loop, the Waiting
+ *     instruments that the loop does not name change as said above, and if none waits then the
+ *     queue is let go, as ever. All else stays.
+ *     Any other number but 0 is a refusal: store and output are left as they were, to the last
+ *     number and byte.
  *
  * In short (examples/minimal.c is a whole program)
  *   static uint64_t store[SELKAVORN_STORE_NUMBERS];
@@ -114,10 +152,10 @@ extern "C" {
 
 /* The version: of this header and of the archive that it came with. The first number changes when a
  * program that was right may have to change, the second when something is added. */
-#define SELKAVORN_VERSION_MAJOR 1
-#define SELKAVORN_VERSION_MINOR 2
+#define SELKAVORN_VERSION_MAJOR 2
+#define SELKAVORN_VERSION_MINOR 0
 #define SELKAVORN_VERSION_PATCH 0
-#define SELKAVORN_VERSION "1.2.0"
+#define SELKAVORN_VERSION "2.0.0"
 
 #define SELKAVORN_STORE_NUMBERS 7168     /* numbers that a store has at least */
 #define SELKAVORN_QUOTE_NUMBERS 17       /* numbers that a quote writes */
@@ -157,8 +195,8 @@ enum selkavorn_answer {
     SELKAVORN_SNAPSHOT_LIVE = 6,
     /* S is below B: the queue does not reach back to it. Wait for the next loop of snapshots. */
     SELKAVORN_SNAPSHOT_BELOW = 7,
-    /* S is above H: messages up to S have yet to come. Keep it and feed it again once H reaches S,
-     * or wait for the next loop. */
+    /* S is above H: messages up to S have yet to come. Wait for the next loop. Fed again once H
+     * reaches S it is taken, and is a W that came again (duty 8). */
     SELKAVORN_SNAPSHOT_ABOVE = 8,
     /* A side of the snapshot has over 20 places. Wait for the next loop. */
     SELKAVORN_SNAPSHOT_OVER = 9,
@@ -309,7 +347,7 @@ uint64_t selkavorn_open(uint64_t *store, size_t store_n, uint64_t depth, const u
  * Answers one of 0 to 14 or 17, and how many instruments are Waiting after it (0 with 17):
  *   SELKAVORN_ANSWER(r) and SELKAVORN_WAITING_COUNT(r).
  * A message of no bytes, or of more than SELKAVORN_LONGEST_MESSAGE, is 11. Changes the store on 0,
- * 1, 3, 4 and 10 alone. */
+ * 1, 3, 4 and 10; on 5 to 9 the loop alone, and what its end brings. */
 uint64_t selkavorn_feed(uint64_t *store, size_t store_n, const uint8_t *msg, size_t msg_n);
 
 /* Gives place 1 of each side of an instrument, dated.
@@ -332,7 +370,10 @@ uint64_t selkavorn_quote(const uint64_t *store, size_t store_n, uint64_t id, con
  *   out, out_n        room for the message; SELKAVORN_LONGEST_WRITING is always enough
  * Answers 0; 17; 18; 20; 21; 25, and the message's length (0 unless done):
  *   SELKAVORN_ANSWER(r) and SELKAVORN_LENGTH(r).
- * Writes that many bytes of out on 0 alone, and never those beyond. The store is only read. */
+ * Writes that many bytes of out on 0 alone, and never those beyond. The store is only read.
+ * With k = m = 1 the message is a whole loop by itself: on a board that is fed it, all else that
+ * waits is taken for empty, if H as it is written lies in B to H there (duty 9). With k = m above
+ * 1 it is none by itself and begins none; it ends one of m of which the others have come. */
 uint64_t selkavorn_write(const uint64_t *store, size_t store_n, uint64_t id, const uint8_t *sender,
                          size_t sender_n, const uint8_t *target, size_t target_n, uint64_t k,
                          uint64_t m, const uint8_t *time, size_t time_n, uint8_t *out,

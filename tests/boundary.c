@@ -187,8 +187,7 @@ static uint64_t feed_bytes(struct board *board, const uint8_t *message, size_t n
     uint64_t answered = selkavorn_feed(store_of(board), board->n, lend(MESSAGE, message, n), n);
     uint64_t answer = SELKAVORN_ANSWER(answered);
     bool changes = answer == SELKAVORN_DONE || answer == SELKAVORN_GAP ||
-                   answer == SELKAVORN_LET_GO || answer == SELKAVORN_TAKEN ||
-                   answer == SELKAVORN_REPLAY_BROKE;
+                   (answer >= SELKAVORN_LET_GO && answer <= SELKAVORN_REPLAY_BROKE);
     reached[answer] = true;
     check_store(board, changes ? SELKAVORN_STORE_NUMBERS : 0);
     check_outputs(0, 0);
@@ -358,17 +357,24 @@ static void feed(struct board *board, uint64_t answer, uint64_t waiting, const c
 #define HEARTBEAT "35=0|34=%d|" AT
 #define TEXT HEARTBEAT "58=%0*d|" /* with a value of the given width, of more than 999 bytes */
 #define AROUND_TEXT 63            /* bytes of such a message around that value */
-#define EMPTY_W "35=W|34=1|" AT "48=%d|22=8|369=%d|911=1|268=0|"
+#define EMPTY_W "35=W|34=1|" AT "48=%d|22=8|369=%d|911=2|268=0|" /* one of two: no whole loop */
 
-/* Makes a snapshot of instrument 7 with that many bids. */
-static void make_bids(int last, int bids)
+/* Makes the W numbered `turn` of a loop of `reports`, with that many bids. */
+static void make_turn(uint64_t turn, uint64_t reports, int id, int last, int bids)
 {
     char entries[MESSAGE_ROOM / 2] = "";
     size_t n = 0;
     for (int i = 1; i <= bids; i++)
         n += (size_t)snprintf(entries + n, sizeof entries - n,
                               "269=0|270=%d|271=1|37=A%d|" STAMP "290=%d|", 100 - i, i, i);
-    make("35=W|34=1|" AT "48=7|22=8|369=%d|911=1|268=%d|%s", last, bids, entries);
+    make("35=W|34=%" PRIu64 "|" AT "48=%d|22=8|369=%d|911=%" PRIu64 "|268=%d|%s", turn, id, last,
+         reports, bids, entries);
+}
+
+/* Makes a snapshot of instrument 7 with that many bids, the first of a loop of two. */
+static void make_bids(int last, int bids)
+{
+    make_turn(1, 2, 7, last, bids);
 }
 
 /* Makes an X with that many entries that empty the book of instrument 7. */
@@ -819,7 +825,7 @@ static void open_with_rows(uint64_t depth, const struct row *bids, const struct 
     add_side(entries, n, sizeof entries, 1, offers);
     open_fresh(&first, depth);
     feed(&first, SELKAVORN_DONE, 2, "1 in order", HEARTBEAT, 1);
-    feed(&first, SELKAVORN_TAKEN, 1, "the book", "35=W|34=1|" AT "48=7|22=8|369=1|911=1|268=%d|%s",
+    feed(&first, SELKAVORN_TAKEN, 1, "the book", "35=W|34=1|" AT "48=7|22=8|369=1|911=2|268=%d|%s",
          count_rows(bids) + count_rows(offers), entries);
 }
 
@@ -978,6 +984,358 @@ static void test_summary(void)
     end();
 }
 
+/* ---- loops of snapshots ---- */
+
+/* The loop record in the store: 911, how many W have come, the lowest 369, the instruments named. */
+enum { LAYOUT_AT = 0, OLDER_LAYOUT = 4601, RECORD_AT = 8, RECORD_NUMBERS = 4 };
+struct record {
+    uint64_t numbers[RECORD_NUMBERS];
+};
+static const struct record no_loop;
+#define LARGEST UINT64_C(4294967295) /* of 34, 369 and 911 */
+
+enum { OTHER = 55 }; /* an instrument that is not followed */
+
+/* Opens the first board for 7, 8 and 9, which all wait, with B = 2 and H = 5. The queue holds a bid
+ * of 8 (message 4) and one of 9 (5). */
+static void open_options(void)
+{
+    static const uint64_t ids[] = {7, 8, 9};
+    fresh(&first);
+    check_equal(open_board(&first, SELKAVORN_ORDER_DEPTH, ids, 3), SELKAVORN_DONE, "opening");
+    feed(&first, SELKAVORN_GAP, 3, "3 is a gap", HEARTBEAT, 3);
+    feed(&first, SELKAVORN_DONE, 3, "a bid of 8",
+         "35=X|34=4|" AT "268=1|279=0|269=0|" ENTRY("8", "24.01") "290=1|");
+    feed(&first, SELKAVORN_DONE, 3, "a bid of 9",
+         "35=X|34=5|" AT "268=1|279=0|269=0|" ENTRY("9", "0.5") "290=1|");
+}
+
+/* Feeds the W numbered `turn` of a loop of `reports`, with no entries. */
+static void feed_turn(uint64_t turn, uint64_t reports, int id, int last, uint64_t answer,
+                      uint64_t waiting, const char *what)
+{
+    make_turn(turn, reports, id, last, 0);
+    feed_made(&first, answer, waiting, what);
+}
+
+static void set_record(struct record record)
+{
+    memcpy(store_of(&first) + RECORD_AT, record.numbers, sizeof record.numbers);
+}
+
+static void check_record(struct record wanted, const char *what)
+{
+    for (size_t i = 0; i < RECORD_NUMBERS; i++)
+        check_equal(store_of(&first)[RECORD_AT + i], wanted.numbers[i], what);
+}
+
+/* Since the last call nothing of the store changed but the loop record. */
+static void check_record_alone(const char *what)
+{
+    const uint64_t *now = store_of(&first), *old = first.before + GUARD;
+    const size_t rest = RECORD_AT + RECORD_NUMBERS;
+    check(memcmp(now, old, RECORD_AT * sizeof *now) == 0 &&
+              memcmp(now + rest, old + rest, (STORE_ROOM - rest) * sizeof *now) == 0,
+          what);
+}
+
+/* How an instrument must stand. */
+struct standing {
+    uint64_t waiting, reason, bids;
+};
+
+static void check_standing(uint64_t id, struct standing wanted, const char *what)
+{
+    check_equal(state(&first, id, SELKAVORN_STATE_NUMBERS), SELKAVORN_DONE, what);
+    check_equal(numbers[SELKAVORN_STATE_WAITING], wanted.waiting, what);
+    check_equal(numbers[SELKAVORN_STATE_REASON], wanted.reason, what);
+    check_equal(numbers[SELKAVORN_STATE_BIDS], wanted.bids, what);
+    check_equal(numbers[SELKAVORN_STATE_OFFERS], 0, what);
+}
+
+static const struct standing waits = {1, 0, 0}, live = {0, 0, 0}, live_with_bid = {0, 0, 1};
+
+static void test_loop(void)
+{
+    begin("loop of snapshots");
+    open_options();
+    feed_turn(1, 3, 7, 5, SELKAVORN_TAKEN, 2, "7 has a snapshot");
+    check_record((struct record){{3, 1, 5, 1}}, "the first of three");
+    feed_turn(2, 3, OTHER, 3, SELKAVORN_SNAPSHOT_UNFOLLOWED, 2, "another has one too");
+    check_record_alone("a W that is not followed changes the record alone");
+    check_record((struct record){{3, 2, 3, 1}}, "two of three");
+    feed_turn(3, 3, 7, 4, SELKAVORN_SNAPSHOT_LIVE, 0, "the loop is whole: 8 and 9 are Live");
+    check_record(no_loop, "a whole loop ends its record");
+    check_standing(7, live, "7 is as its snapshot made it");
+    check_standing(8, live_with_bid, "8: message 4 is above 369 = 3");
+    check_standing(9, live_with_bid, "9: message 5 too");
+    check_summary(5, 20250103, 130000000, 5, 0, "none waits, B is H, the heard time stays");
+    check_equal(quote(&first, 8, "20250103-13:00:00", 0, 17), SELKAVORN_DONE, "8 has a quote");
+    feed(&first, SELKAVORN_DONE, 0, "8 gets its entries",
+         "35=X|34=6|" AT "268=1|279=2|269=0|48=8|22=8|290=1|");
+    check_standing(8, live, "its bid is deleted");
+    end();
+}
+
+static void test_loop_of_one(void)
+{
+    begin("loop of one");
+    open_options();
+    feed_turn(1, 1, 8, 5, SELKAVORN_TAKEN, 0, "whole at once");
+    check_record(no_loop, "no record");
+    check_standing(8, live, "8 is named: its own snapshot");
+    check_standing(9, live, "9: message 5 is not above 369 = 5");
+    open_options();
+    feed_turn(1, 1, OTHER, 4, SELKAVORN_SNAPSHOT_UNFOLLOWED, 0, "of one that is not followed");
+    check_standing(8, live, "8: message 4 is not above 369 = 4");
+    check_standing(9, live_with_bid, "9: message 5 is");
+    open_fresh(&first, SELKAVORN_PRICE_DEPTH);
+    feed_turn(1, 1, 7, 0, SELKAVORN_TAKEN, 0, "nothing heard: 0 is B and H");
+    check_equal(quote(&first, 9, "20250103-13:00:00", 0, 17), SELKAVORN_UNHEARD, "9 is Live");
+    end();
+}
+
+/* The closing W of a loop of three, what it is answered, how many wait after it, and how 8 and 9
+ * stand then. H is 6, and a delete that fits no book of 8 is queued (6). */
+static const struct {
+    const char *what;
+    int id, last, bids;
+    uint64_t answer, waiting;
+    struct standing of_8, of_9;
+} closings[] = {
+    {"4", 8, 6, 2, SELKAVORN_TAKEN, 0, {0, 0, 2}, {0, 0, 0}},
+    {"5", OTHER, 4, 0, SELKAVORN_SNAPSHOT_UNFOLLOWED, 1, {1, 1, 0}, {0, 0, 1}},
+    {"6", 7, 6, 0, SELKAVORN_SNAPSHOT_LIVE, 1, {1, 1, 0}, {0, 0, 0}},
+    {"7, the lowest is below B", 8, 1, 0, SELKAVORN_SNAPSHOT_BELOW, 2, {1, 0, 0}, {1, 0, 0}},
+    {"8", 8, 7, 0, SELKAVORN_SNAPSHOT_ABOVE, 1, {1, 0, 0}, {0, 0, 0}},
+    {"9", 8, 6, 21, SELKAVORN_SNAPSHOT_OVER, 1, {1, 0, 0}, {0, 0, 0}},
+    {"10", 8, 4, 3, SELKAVORN_REPLAY_BROKE, 1, {1, 1, 0}, {0, 0, 1}}};
+
+static void test_closing(void)
+{
+    begin("closing W by its answer");
+    for (size_t i = 0; i < sizeof closings / sizeof *closings; i++) {
+        const char *what = closings[i].what;
+        open_options();
+        feed(&first, SELKAVORN_DONE, 3, "no such place",
+             "35=X|34=6|" AT "268=1|279=2|269=0|48=8|22=8|290=9|");
+        feed_turn(1, 3, OTHER, 5, SELKAVORN_SNAPSHOT_UNFOLLOWED, 3, "one of three");
+        feed_turn(2, 3, 7, 6, SELKAVORN_TAKEN, 2, "two of three");
+        make_turn(3, 3, closings[i].id, closings[i].last, closings[i].bids);
+        feed_made(&first, closings[i].answer, closings[i].waiting, what);
+        check_record(no_loop, what);
+        check_standing(7, live, what);
+        check_standing(8, closings[i].of_8, what);
+        check_standing(9, closings[i].of_9, what);
+    }
+    end();
+}
+
+/* W that do not follow on the first two of a loop of four, and the record after them. */
+static const struct {
+    const char *what;
+    uint64_t turn, reports;
+    struct record record;
+} others[] = {{"the same again", 2, 4, {{0}}},         {"one is missed", 4, 4, {{0}}},
+              {"34 above 911", 5, 4, {{0}}},           {"34 far above", LARGEST, 4, {{0}}},
+              {"a larger 911", 3, 5, {{0}}},           {"a smaller 911", 3, 3, {{0}}},
+              {"34 above another 911", 3, 2, {{0}}},   {"the first again", 1, 4, {{4, 1, 5, 0}}},
+              {"of another loop", 1, 9, {{9, 1, 5, 0}}}};
+
+static void test_broken_loops(void)
+{
+    begin("broken loops");
+    for (size_t i = 0; i < sizeof others / sizeof *others; i++) {
+        open_options();
+        feed_turn(1, 4, OTHER, 5, SELKAVORN_SNAPSHOT_UNFOLLOWED, 3, "one of four");
+        feed_turn(2, 4, 9, 6, SELKAVORN_SNAPSHOT_ABOVE, 3, "two of four, 9 is named");
+        check_record((struct record){{4, 2, 5, 4}}, "two of four");
+        feed_turn(others[i].turn, others[i].reports, OTHER, 5, SELKAVORN_SNAPSHOT_UNFOLLOWED, 3,
+                  others[i].what);
+        check_record(others[i].record, others[i].what);
+        feed_turn(3, 4, OTHER, 5, SELKAVORN_SNAPSHOT_UNFOLLOWED, 3, "three of four");
+        feed_turn(4, 4, OTHER, 5, SELKAVORN_SNAPSHOT_UNFOLLOWED, 3, "four of four");
+        check_record(no_loop, "nothing is left of it");
+    }
+    feed_turn(2, 2, OTHER, 5, SELKAVORN_SNAPSHOT_UNFOLLOWED, 3, "where no loop runs");
+    feed_turn(1, 2, 9, 6, SELKAVORN_SNAPSHOT_ABOVE, 3, "a loop that names 9");
+    feed_turn(1, 2, OTHER, 5, SELKAVORN_SNAPSHOT_UNFOLLOWED, 3, "begun anew");
+    feed_turn(2, 2, OTHER, 5, SELKAVORN_SNAPSHOT_UNFOLLOWED, 0, "it is whole, and names none");
+    feed(&first, SELKAVORN_GAP, 3, "a gap", HEARTBEAT, 8);
+    feed_turn(2, 2, OTHER, 8, SELKAVORN_SNAPSHOT_UNFOLLOWED, 3, "the closing one once more");
+    end();
+}
+
+static void test_lowest(void)
+{
+    static const struct {
+        int lowest;
+        uint64_t waiting;
+    } cases[] = {{0, 3}, {1, 3}, {2, 0}, {4, 0}, {5, 0}, {6, 3}};
+    begin("lowest 369");
+    for (size_t i = 0; i < sizeof cases / sizeof *cases; i++)
+        for (uint64_t low_turn = 1; low_turn <= 3; low_turn++) {
+            open_options();
+            for (uint64_t turn = 1; turn <= 3; turn++)
+                feed_turn(turn, 3, OTHER, turn == low_turn ? cases[i].lowest : 6,
+                          SELKAVORN_SNAPSHOT_UNFOLLOWED, turn < 3 ? 3 : cases[i].waiting,
+                          "in B to H, wherever it stands");
+            check_record(no_loop, "the loop is whole whatever its lowest is");
+        }
+    end();
+}
+
+static void test_named(void)
+{
+    begin("named instruments");
+    open_options();
+    feed(&first, SELKAVORN_DONE, 3, "9 will break",
+         "35=X|34=6|" AT "268=1|279=2|269=0|48=9|22=8|290=7|");
+    feed_turn(1, 4, 7, 7, SELKAVORN_SNAPSHOT_ABOVE, 3, "7 is named, above H");
+    check_record_alone("a W above H changes the record alone");
+    feed_turn(2, 4, 8, 1, SELKAVORN_SNAPSHOT_BELOW, 3, "8 is named, below B");
+    check_record_alone("a W below B changes the record alone");
+    feed_turn(1, 3, 7, 7, SELKAVORN_SNAPSHOT_ABOVE, 3, "anew, 7 is named");
+    make_turn(2, 3, 8, 6, 21);
+    feed_made(&first, SELKAVORN_SNAPSHOT_OVER, 3, "8 is named, a side over 20");
+    check_record_alone("a W with a side over 20 changes the record alone");
+    check_record((struct record){{3, 2, 6, 3}}, "7 and 8 are named");
+    feed_turn(3, 3, 9, 5, SELKAVORN_REPLAY_BROKE, 3, "9 is named, its replay breaks");
+    check_standing(7, waits, "7 is left");
+    check_standing(8, waits, "8 is left");
+    check_standing(9, (struct standing){1, SELKAVORN_REASON_PLACE, 0}, "9 is left");
+    feed_turn(1, 2, 7, 6, SELKAVORN_TAKEN, 2, "7 is taken");
+    feed(&first, SELKAVORN_DONE, 3, "and breaks", "35=X|34=7|" AT "268=1|" DELETE_BID);
+    feed_turn(2, 2, OTHER, 6, SELKAVORN_SNAPSHOT_UNFOLLOWED, 1, "8 and 9 are not named");
+    check_standing(7, (struct standing){1, SELKAVORN_REASON_PLACE, 0}, "7 was");
+    check_standing(9, live, "the reason of 9 is cleared");
+    end();
+}
+
+/* Makes the X numbered 6 that breaks 7 for want of room, if it waits with an empty snapshot. */
+static void make_21_bids(void)
+{
+    char text[MESSAGE_ROOM / 2] = "";
+    for (int i = 0; i < 21; i++)
+        strcat(text, NEW_BID);
+    make("35=X|34=6|" AT "268=21|%s", text);
+}
+
+static void test_replays(void)
+{
+    begin("replays at the end of a loop");
+    open_options();
+    make_21_bids();
+    feed_made(&first, SELKAVORN_DONE, 3, "21 bids of 7");
+    feed(&first, SELKAVORN_DONE, 3, "no such place of 8",
+         "35=X|34=7|" AT "268=1|279=2|269=0|48=8|22=8|290=2|");
+    feed_turn(1, 1, OTHER, 2, SELKAVORN_SNAPSHOT_UNFOLLOWED, 2, "each replay by itself");
+    check_standing(7, (struct standing){1, SELKAVORN_REASON_NO_ROOM, 0}, "7 has no room");
+    check_standing(8, (struct standing){1, SELKAVORN_REASON_PLACE, 0}, "8 has no such place");
+    check_standing(9, live_with_bid, "9 is Live");
+    check_summary(7, 20250103, 130000000, 2, 3, "B stays while one waits");
+    feed_turn(1, 1, OTHER, 6, SELKAVORN_SNAPSHOT_UNFOLLOWED, 1, "from 6 on");
+    check_standing(7, live, "7 is Live, its reason cleared");
+    check_standing(8, (struct standing){1, SELKAVORN_REASON_PLACE, 0}, "8 waits on");
+    check_standing(9, live_with_bid, "9 was Live and keeps its book");
+    feed_turn(1, 1, OTHER, 7, SELKAVORN_SNAPSHOT_UNFOLLOWED, 0, "from 7 on");
+    check_summary(7, 20250103, 130000000, 7, 0, "none waits: B is H");
+    end();
+}
+
+/* What lies between two W of a loop leaves its record. */
+static void test_between(void)
+{
+    static const struct record one = {{2, 1, 5, 1}};
+    begin("between two W");
+    open_options();
+    feed_turn(1, 2, 7, 5, SELKAVORN_TAKEN, 2, "one of two");
+    make_turn(2, 2, OTHER, 5, 0);
+    check_equal(feed_bytes(&first, message, message_n - 1), SELKAVORN_FRAME + 2 * 256, "cut short");
+    message[message_n - 2] = message[message_n - 2] == '0' ? '1' : '0';
+    feed_made(&first, SELKAVORN_CHECKSUM, 2, "the second, another sum");
+    feed(&first, SELKAVORN_TYPE, 2, "another type", "35=w|34=2|" AT);
+    feed(&first, SELKAVORN_FIELDS, 2, "369 is missing",
+         "35=W|34=2|" AT "48=55|22=8|911=2|268=0|");
+    feed(&first, SELKAVORN_FIELDS, 2, "911 = 0, and 34 = 1",
+         "35=W|34=1|" AT "48=55|22=8|369=5|911=0|268=0|");
+    feed(&first, SELKAVORN_OLD, 2, "an old one", HEARTBEAT, 5);
+    feed(&first, SELKAVORN_DONE, 2, "the next one", HEARTBEAT, 6);
+    feed(&first, SELKAVORN_DONE, 2, "an X", "35=X|34=7|" AT "268=1|" NEW_BID);
+    check_record(one, "the record stays");
+    feed_turn(2, 2, OTHER, 5, SELKAVORN_SNAPSHOT_UNFOLLOWED, 0, "two of two");
+    feed_turn(1, 2, 7, 11, SELKAVORN_SNAPSHOT_LIVE, 0, "one of two");
+    feed(&first, SELKAVORN_GAP, 3, "a gap", HEARTBEAT, 11);
+    check_record((struct record){{2, 1, 11, 1}}, "the record stays after a gap");
+    feed_turn(2, 2, OTHER, 12, SELKAVORN_SNAPSHOT_UNFOLLOWED, 1, "two of two, 7 was named");
+    feed_turn(1, 2, OTHER, 11, SELKAVORN_SNAPSHOT_UNFOLLOWED, 1, "one of two");
+    open_fresh(&first, SELKAVORN_ORDER_DEPTH);
+    check_record(no_loop, "opening clears it");
+    end();
+}
+
+/* Loop records in a store that follows three, and whether they are sound. */
+static const struct {
+    struct record record;
+    bool sound;
+} records[] = {{{{0, 0, 0, 0}}, true},
+               {{{1, 0, 0, 0}}, false},
+               {{{0, 1, 0, 0}}, false},
+               {{{0, 0, 1, 0}}, false},
+               {{{0, 0, 0, 1}}, false},
+               {{{1, 1, 0, 0}}, false},
+               {{{2, 0, 0, 0}}, false},
+               {{{2, 1, 0, 0}}, true},
+               {{{2, 2, 0, 0}}, false},
+               {{{3, 2, 0, 0}}, true},
+               {{{3, 3, 0, 0}}, false},
+               {{{LARGEST, 1, 0, 0}}, true},
+               {{{LARGEST, LARGEST - 1, 0, 0}}, true},
+               {{{LARGEST, LARGEST, 0, 0}}, false},
+               {{{LARGEST + 1, 1, 0, 0}}, false},
+               {{{LARGEST + 1, LARGEST, 0, 0}}, false},
+               {{{UINT64_MAX, 1, 0, 0}}, false},
+               {{{2, UINT64_MAX, 0, 0}}, false},
+               {{{2, 1, LARGEST, 0}}, true},
+               {{{2, 1, LARGEST + 1, 0}}, false},
+               {{{2, 1, UINT64_MAX, 0}}, false},
+               {{{2, 1, 0, 7}}, true},
+               {{{2, 1, 0, 8}}, false},
+               {{{2, 1, 0, 15}}, false},
+               {{{2, 1, 0, 65536}}, false},
+               {{{2, 1, 0, UINT64_MAX}}, false}};
+
+static void test_loop_store(void)
+{
+    begin("store of a loop");
+    for (size_t i = 0; i < sizeof records / sizeof *records; i++) {
+        open_options();
+        set_record(records[i].record);
+        if (records[i].sound) {
+            check_equal(state(&first, 7, SELKAVORN_STATE_NUMBERS), SELKAVORN_DONE, "sound");
+            feed(&first, SELKAVORN_DONE, 3, "a sound record stays", HEARTBEAT, 6);
+            check_record(records[i].record, "a sound record stays");
+        } else {
+            check_refused_store("a record outside its range");
+        }
+    }
+    open_options();
+    for (size_t i = RECORD_AT + RECORD_NUMBERS; i < 32; i++) {
+        store_of(&first)[i] = 1;
+        check_equal(summary(&first, SELKAVORN_BOARD_NUMBERS), SELKAVORN_STORE, "a spare number");
+        store_of(&first)[i] = 0;
+    }
+    store_of(&first)[LAYOUT_AT] = OLDER_LAYOUT;
+    check_refused_store("a store of the layout before");
+    open_options();
+    set_record((struct record){{LARGEST, LARGEST - 2, 4, 0}});
+    feed_turn(LARGEST - 1, LARGEST, OTHER, 5, SELKAVORN_SNAPSHOT_UNFOLLOWED, 3, "all but one");
+    check_record((struct record){{LARGEST, LARGEST - 1, 4, 0}}, "all but one have come");
+    feed_turn(LARGEST, LARGEST, OTHER, 5, SELKAVORN_SNAPSHOT_UNFOLLOWED, 0, "the longest loop");
+    check_record(no_loop, "the longest loop is whole");
+    end();
+}
+
 /* Writes by the first board with one argument that is not good. */
 static void check_argument(struct writing w, const char *what)
 {
@@ -1073,7 +1431,7 @@ static void test_writing(void)
 /* Writes the book of 7 from the first board, gives it to a fresh second one, and compares. */
 static void check_round_trip(uint64_t depth, int number)
 {
-    struct writing w = {7, "SHED", "YARD", 1, 1, "20250103-13:00:09.000", BYTES_ROOM};
+    struct writing w = {7, "SHED", "YARD", 1, 2, "20250103-13:00:09.000", BYTES_ROOM};
     uint64_t quoted[SELKAVORN_QUOTE_NUMBERS];
     uint8_t written[BYTES_ROOM];
     size_t n = (size_t)SELKAVORN_LENGTH(write_book(&first, w));
@@ -1336,6 +1694,15 @@ int main(void)
     test_lot();
     test_lot_bounds();
     test_summary();
+    test_loop();
+    test_loop_of_one();
+    test_closing();
+    test_broken_loops();
+    test_lowest();
+    test_named();
+    test_replays();
+    test_between();
+    test_loop_store();
     test_writing_arguments();
     test_writing();
     test_round_trip();
