@@ -9,7 +9,8 @@
 
 namespace {
 
-constexpr int BETWEEN = 50; // messages between two looks at all books
+constexpr int BETWEEN = 50;  // messages between two looks at all books
+constexpr int OPENED = 1000; // messages to a board: behind the largest number, which a harmed one may have, none is counted
 
 // Values at the bounds of one field or another, and just outside.
 const char *const VALUES[] = {
@@ -69,8 +70,9 @@ void harm_bytes(std::string &message, Draw &draw) {
 
 // What messages are drawn from.
 struct Source {
-    Stream few, many, most; // entries a message
-    std::string over; // a snapshot with 21 bids
+    Stream few, many, most;           // entries a message
+    std::vector<std::string> growing; // changes of books that were empty
+    std::string over;                 // a snapshot with 21 bids
 };
 
 std::string over_full(const std::string &snapshot) {
@@ -84,6 +86,14 @@ std::string over_full(const std::string &snapshot) {
     return message('W', joined + field(290, "21"));
 }
 
+// Gives a snapshot its place in a loop. Most go on with the one that is running, or begin one where none is.
+void set_loop(Fields &fields, const plain_loop &loop, Draw &draw) {
+    const bool runs = loop.come > 0;
+    const bool other_number = draw.below(16) == 0, other_reports = draw.below(16) == 0;
+    set(fields, 34, other_number ? 1 + draw.below(4) : runs ? loop.come + 1 : 1);
+    set(fields, 911, other_reports || !runs ? 1 + draw.below(6) : loop.reports);
+}
+
 // The next message: an X, a snapshot or a heartbeat, numbered after what the board holds, and often harmed.
 std::string next(const Source &source, const plain_board &board, Draw &draw) {
     const unsigned sort = draw.below(10);
@@ -91,13 +101,15 @@ std::string next(const Source &source, const plain_board &board, Draw &draw) {
     const unsigned jump = draw.below(60), back = draw.below(3);
     const uint64_t number = jump == 0 ? board.number + 2 : jump == 1 ? std::max<uint64_t>(board.number, 1) : board.number + 1;
     char type = sort < 5 ? 'X' : sort < 9 ? 'W' : '0';
+    const std::vector<std::string> &changes = draw.below(3) == 0 ? source.growing : stream.changes;
     Fields fields = type == 'W' ? middle(draw.below(20) ? stream.snapshots[draw.below(INSTRUMENTS)] : source.over)
-                                : middle(stream.changes[draw.below(static_cast<unsigned>(stream.changes.size()))]);
+                                : middle(changes[draw.below(static_cast<unsigned>(changes.size()))]);
     if (type == '0') fields.resize(4);
     if (type == 'W') {
         set(fields, 369, back == 0 ? board.complete : back == 1 ? board.number : std::max<uint64_t>(board.number, 1) - 1);
         if (draw.below(20) == 0) set(fields, 369, draw.below(2) ? board.number + 1 : std::max<uint64_t>(board.complete, 1) - 1);
         if (draw.below(20) == 0) set(fields, 48, 7);
+        set_loop(fields, board.loop, draw);
     } else {
         set(fields, 34, number);
     }
@@ -110,11 +122,25 @@ std::string next(const Source &source, const plain_board &board, Draw &draw) {
     return bytes;
 }
 
+// Counts what a snapshot brought to those that waited and that its loop does not name: it changes them at the end of the loop alone.
+// The board still has the names then.
+void count_end(const plain_board &was, const plain_board &is, Brought &brought) {
+    for (uint32_t i = 0; i < is.followed; i++) {
+        const uint16_t bit = static_cast<uint16_t>(1u << i);
+        if ((is.loop.named & bit) || !(was.waiting & bit)) continue;
+        const bool live = !(is.waiting & bit), empty = is.sides[i][0].held + is.sides[i][1].held == 0;
+        brought.empty += live && empty;
+        brought.replayed += live && !empty;
+        brought.broke += !live && is.reasons[i] != was.reasons[i];
+    }
+}
+
 } // namespace
 
-std::string disagreement(Depth depth, int messages, std::map<uint64_t, int> &answers) {
+std::string disagreement(Depth depth, int messages, Brought &brought) {
     const Source source = [depth] {
-        Source made = {make_stream(depth, 200, 1), make_stream(depth, 50, 10), make_stream(depth, 10, 64), ""};
+        Source made = {make_stream(depth, 200, 1), make_stream(depth, 50, 10), make_stream(depth, 10, 64),
+                       make_loop(depth, 100, 2, 2).changes, ""};
         made.over = over_full(made.few.snapshots[0]);
         return made;
     }();
@@ -122,18 +148,23 @@ std::string disagreement(Depth depth, int messages, std::map<uint64_t, int> &ans
     Store store;
     plain_board board;
     const std::vector<uint64_t> &ids = source.few.ids;
-    selkavorn_open(store.data(), store.size(), depth, ids.data(), ids.size());
-    plain_open(&board, static_cast<plain_depth>(depth), ids.data(), ids.size());
-    for (int n = 1; n <= messages; n++) {
+    for (int n = 0; n < messages; n++) {
+        if (n % OPENED == 0) {
+            selkavorn_open(store.data(), store.size(), depth, ids.data(), ids.size());
+            plain_open(&board, static_cast<plain_depth>(depth), ids.data(), ids.size());
+        }
         const std::string bytes = next(source, board, draw);
         const uint8_t *const at = reinterpret_cast<const uint8_t *>(bytes.data());
+        const plain_board was = board;
         const uint64_t ours = selkavorn_feed(store.data(), store.size(), at, bytes.size());
         const uint64_t theirs = plain_feed(&board, at, bytes.size());
-        answers[SELKAVORN_ANSWER(ours)]++;
+        const uint64_t answer = SELKAVORN_ANSWER(ours);
+        brought.answers[answer]++;
+        if (answer >= SELKAVORN_TAKEN && answer <= SELKAVORN_REPLAY_BROKE) count_end(was, board, brought);
         std::string differs;
         if (ours != theirs) differs = "answered " + std::to_string(ours) + " and " + std::to_string(theirs);
-        else if (n % BETWEEN == 0 || n == messages) differs = difference(store, seen(board));
-        if (!differs.empty()) return "message " + std::to_string(n) + ": " + differs + ": " + bytes;
+        else if ((n + 1) % BETWEEN == 0 || n + 1 == messages) differs = difference(store, seen(board));
+        if (!differs.empty()) return "message " + std::to_string(n + 1) + ": " + differs + ": " + bytes;
     }
     return "";
 }

@@ -6,6 +6,13 @@
 
 #include "streams.hpp"
 
-// Feeds as many drawn messages to both. Says where they first differ, in an answer or in what they then hold, or nothing;
-// `answers` counts the messages by their answer.
-std::string disagreement(Depth depth, int messages, std::map<uint64_t, int> &answers);
+// What the messages brought.
+struct Brought {
+    std::map<uint64_t, int> answers; // messages, by their answer
+    // Instruments at the ends of loops that did not name them: those that went Live with an empty book, those that did with places, and
+    // those that broke.
+    int empty = 0, replayed = 0, broke = 0;
+};
+
+// Feeds as many drawn messages to both. Says where they first differ, in an answer or in what they then hold, or nothing.
+std::string disagreement(Depth depth, int messages, Brought &brought);

@@ -1,6 +1,7 @@
 // bench time DICTIONARY ROUNDS: the time of one call, the proved code beside its peers on the same bytes in the same run.
 // bench count DICTIONARY [FEW]: the same calls once each, for callgrind to count their instructions; with FEW, of few cases.
-// bench agree: whether the plain reader in C answers what the proved code does; says how often each answer came.
+// bench agree: whether the plain reader in C answers what the proved code does; says how often each answer came, and what the ends of
+// loops brought.
 // bench recordings: whether it finds the same pieces in each recording; says what the recordings hold.
 // `time` writes a table of tab-separated columns; a call of `count` is named in callgrind's own file by the same columns.
 #include <algorithm>
@@ -28,6 +29,7 @@ namespace {
 constexpr int ENTRIES_A_ROUND = 1024;
 constexpr int QUEUE = 256;         // entries that fill the queue
 constexpr int CALLS_A_ROUND = 256; // of a call that takes no stream
+constexpr int ENDS_A_ROUND = 4;    // ends of loops, each on a store of its own: so few that a usual second-level cache holds them
 constexpr size_t COPIES = 31;      // of a store, at places of their own in memory; a round takes two, so all have their turn
 constexpr int AGREED = 10000;      // messages that both readers are asked, a depth kind
 
@@ -64,14 +66,13 @@ struct Start {
     PeerBoard board;
 };
 
-void open(Store &store, Depth depth, const Stream &stream) {
-    if (selkavorn_open(store.data(), store.size(), depth, stream.ids.data(), stream.ids.size()) != SELKAVORN_DONE)
-        fail("the store is not opened");
+void open(Store &store, Depth depth, const std::vector<uint64_t> &ids) {
+    if (selkavorn_open(store.data(), store.size(), depth, ids.data(), ids.size()) != SELKAVORN_DONE) fail("the store is not opened");
 }
 
-plain_board opened(Depth depth, const Stream &stream) {
+plain_board opened(Depth depth, const std::vector<uint64_t> &ids) {
     plain_board board;
-    plain_open(&board, static_cast<plain_depth>(depth), stream.ids.data(), stream.ids.size());
+    plain_open(&board, static_cast<plain_depth>(depth), ids.data(), ids.size());
     return board;
 }
 
@@ -86,8 +87,8 @@ template <typename Keeper> void take(Keeper &keeper, const std::string &snapshot
 Start start(const Case &c, const FIX::DataDictionary &dictionary) {
     Start s;
     s.stream = make_stream(c.depth, (c.waiting ? QUEUE : ENTRIES_A_ROUND) / c.entries, c.entries);
-    open(s.store, c.depth, s.stream);
-    s.plain = opened(c.depth, s.stream);
+    open(s.store, c.depth, s.stream.ids);
+    s.plain = opened(c.depth, s.stream.ids);
     for (int i = 0; i < INSTRUMENTS; i++) {
         s.board.books.push_back(PeerBook());
         s.board.books.back().id = s.stream.ids[i];
@@ -115,6 +116,21 @@ template <typename Keeper> class Copies {
     size_t at = 0;
 };
 
+// For a round whose calls each take a store or a board of their own.
+template <typename Keeper> class Each {
+  public:
+    Each(const Keeper &of, int calls) : all(static_cast<size_t>(calls), Copies<Keeper>(of)), of(of) {}
+    void put_back() {
+        for (Copies<Keeper> &copies : all) copies.next(of);
+    }
+    Keeper &operator[](size_t i) { return *all[i]; }
+    size_t size() const { return all.size(); }
+
+  private:
+    std::vector<Copies<Keeper>> all;
+    const Keeper of;
+};
+
 // Something to measure: makes ready for a round, does the round's calls, and says whether all went well.
 struct Measured {
     std::string what; // as the columns of the table have it
@@ -132,6 +148,15 @@ template <typename Call> std::function<bool()> for_each(const std::vector<std::s
     return [&messages, call] {
         bool good = true;
         for (const std::string &message : messages) good &= call(message);
+        return good;
+    };
+}
+
+// One call for each store or board.
+template <typename Keeper, typename Call> std::function<bool()> for_each(Each<Keeper> &each, Call call) {
+    return [&each, call] {
+        bool good = true;
+        for (size_t i = 0; i < each.size(); i++) good &= call(each[i]);
         return good;
     };
 }
@@ -273,8 +298,8 @@ void measure_others(Depth depth, const FIX::DataDictionary &dictionary, const Me
     const SeenBook &book = held.books[0];
     const uint64_t *ids = s.stream.ids.data(), id = book.id, units = whole_side(s.store, held, book);
     Store unheard;
-    open(unheard, depth, s.stream);
-    const plain_board plain_unheard = opened(depth, s.stream);
+    open(unheard, depth, s.stream.ids);
+    const plain_board plain_unheard = opened(depth, s.stream.ids);
     Copies<Store> stores(unheard), asked(s.store);
     Copies<plain_board> plains(plain_unheard);
     PeerBoard board;
@@ -299,11 +324,45 @@ void measure_others(Depth depth, const FIX::DataDictionary &dictionary, const Me
     check_same(c, *stores, "the plain board", seen(*plains));
 }
 
+// What the second snapshot of a loop starts from: all 16 wait, the queue is full, and the first has come.
+template <typename Keeper> Keeper begun(Keeper keeper, const Loop &loop) {
+    for (const std::string &x : loop.changes)
+        if (SELKAVORN_ANSWER(feed(keeper, x)) != SELKAVORN_DONE) fail("a change before a loop is not counted");
+    if (SELKAVORN_ANSWER(feed(keeper, loop.first)) != SELKAVORN_SNAPSHOT_UNFOLLOWED) fail("a loop is not begun");
+    return keeper;
+}
+
+// A snapshot that ends a loop of two: it is taken, and so is an empty one by each of the 15 others, whose queued entries are replayed.
+// Beside it the same snapshot in a loop of three, which goes on: the others still wait.
+void measure_loops(Depth depth, const Measure &measure) {
+    const Case c = {depth, 0, 0};
+    const int entries = 16; // of an X
+    const Loop two = make_loop(depth, QUEUE / entries, entries, 2), three = make_loop(depth, QUEUE / entries, entries, 3);
+    Store unheard;
+    open(unheard, depth, two.ids);
+    const plain_board plain = begun(opened(depth, two.ids), two);
+    if (plain.queued != QUEUE) fail("the queue is not full before the end of a loop");
+    Each<Store> ends(begun(unheard, two), ENDS_A_ROUND), others(begun(unheard, three), ENDS_A_ROUND);
+    Each<plain_board> plains(plain, ENDS_A_ROUND);
+    const uint64_t waiting = 256u * (INSTRUMENTS - 1);
+    const size_t length = two.second.size();
+    std::vector<Measured> all = {
+        {columns(c, length, "loop end"), ENDS_A_ROUND, [&] { ends.put_back(); },
+         for_each(ends, [&](Store &store) { return feed(store, two.second) == SELKAVORN_TAKEN; }), {}},
+        {columns(c, length, "plain loop end"), ENDS_A_ROUND, [&] { plains.put_back(); },
+         for_each(plains, [&](plain_board &board) { return feed(board, two.second) == SELKAVORN_TAKEN; }), {}},
+        {columns(c, length, "loop goes on"), ENDS_A_ROUND, [&] { others.put_back(); },
+         for_each(others, [&](Store &store) { return feed(store, three.second) == SELKAVORN_TAKEN + waiting; }), {}},
+    };
+    measure(all);
+    for (size_t i = 0; i < ends.size(); i++) check_same(c, ends[i], "the plain board", seen(plains[i]));
+}
+
 // A store whose 640 places hold order ids of this kind.
 Store filled(Ids ids) {
     const Stream stream = make_stream(ORDER_DEPTH, 0, 1, ids);
     Store store;
-    open(store, ORDER_DEPTH, stream);
+    open(store, ORDER_DEPTH, stream.ids);
     for (const std::string &w : stream.snapshots) take(store, w);
     return store;
 }
@@ -424,16 +483,19 @@ void count_all(std::vector<Measured> &all) {
     }
 }
 
-// Fails where the plain reader answers or holds something else, or where an answer never came; prints the messages by answer.
+// Fails where the plain reader answers or holds something else, or where an answer never came or the ends of loops brought too little;
+// prints the messages by answer, and the instruments by what the ends of loops brought them.
 void agree() {
     for (Depth depth : {ORDER_DEPTH, PRICE_DEPTH}) {
-        std::map<uint64_t, int> answers;
-        const std::string differs = disagreement(depth, AGREED, answers);
+        Brought brought;
+        const std::string differs = disagreement(depth, AGREED, brought);
         if (!differs.empty()) fail("the plain reader differs: " + differs);
         for (uint64_t answer = 0; answer <= SELKAVORN_FIELDS; answer++)
-            if (answers[answer] == 0) fail("no message was answered " + std::to_string(answer));
-        for (const auto &counted : answers)
+            if (brought.answers[answer] == 0) fail("no message was answered " + std::to_string(answer));
+        if (brought.empty == 0 || brought.replayed == 0 || brought.broke == 0) fail("the ends of loops brought too little");
+        for (const auto &counted : brought.answers)
             std::printf("%d\t%d\t%d\n", depth, static_cast<int>(counted.first), counted.second);
+        std::printf("%d\tends of loops\t%d\t%d\t%d\n", depth, brought.empty, brought.replayed, brought.broke);
     }
 }
 
@@ -486,7 +548,10 @@ int main(int argc, char **argv) {
     for (int waiting : {0, 1})
         for (Depth depth : {ORDER_DEPTH, PRICE_DEPTH})
             for (int entries : {1, 4, 10, 64}) measure_case({depth, entries, waiting}, dictionary, measure);
-    for (Depth depth : {ORDER_DEPTH, PRICE_DEPTH}) measure_others(depth, dictionary, measure);
+    for (Depth depth : {ORDER_DEPTH, PRICE_DEPTH}) {
+        measure_others(depth, dictionary, measure);
+        measure_loops(depth, measure);
+    }
     measure_scans(measure);
     measure_recordings(count ? COUNTED_BYTES : RECORDED_BYTES, dictionary, seldom);
 }

@@ -39,7 +39,7 @@ def bars(run, case, x, y, longest):
 
 def panel(runs, case, y, column, longest):
     entries = "1 entry" if case.entries == 1 else f"{case.entries} entries"
-    yield text(MARGIN, y, f"{entries}, {runs[0].bytes[case]:,} bytes", 14, INK, ' font-weight="bold"')
+    yield text(MARGIN, y, f"{entries}, {runs[0].bytes[case, 'feed']:,} bytes", 14, INK, ' font-weight="bold"')
     for i, (_, name, _) in enumerate(BARS):
         yield text(LABELS - 8, y + 25 + i * (BAR + GAP), name, 13, INK, ' text-anchor="end"')
     for k, run in enumerate(runs):

@@ -207,7 +207,7 @@ struct message {
     uint64_t number;
     uint32_t date, time;
     /* of a W */
-    uint64_t id, last;
+    uint64_t id, last, reports;
     uint64_t sides[2];
     /* of a W its bids and offers, of an X what is for followed instruments */
     uint32_t n;
@@ -334,9 +334,9 @@ static bool read_x(const struct plain_board *board, struct cursor *c, struct mes
 static bool read_w(const struct plain_board *board, struct cursor *c, struct message *m)
 {
     struct fields lead = {.seen = 0};
-    uint64_t count, reports;
+    uint64_t count;
     if (!read_lead(c, W_LEAD, &lead) || !read_number_and_time(&lead, m) || !read_instrument(&lead, &m->id)) return false;
-    if (!whole(&lead, S369, 0, LARGEST_NUMBER, &m->last) || !whole(&lead, S911, 1, LARGEST_NUMBER, &reports)) return false;
+    if (!whole(&lead, S369, 0, LARGEST_NUMBER, &m->last) || !whole(&lead, S911, 1, LARGEST_NUMBER, &m->reports)) return false;
     return whole(&lead, S268, 0, MOST_ENTRIES, &count) && read_group(board, c, S269, W_ENTRY, count, read_w_entry, m);
 }
 
@@ -523,25 +523,63 @@ static uint64_t terms(const struct plain_board *board, const struct message *m, 
     return m->sides[0] > PLAIN_PLACES || m->sides[1] > PLAIN_PLACES ? SELKAVORN_SNAPSHOT_OVER : SELKAVORN_TAKEN;
 }
 
-static uint64_t take(struct plain_board *board, const struct message *m)
+/* Brings the book of an instrument from message `last` up to H; false where a queued entry breaks it. */
+static bool replay(struct plain_board *board, uint32_t instrument, uint64_t last)
 {
-    const uint32_t i = find(board, m->id);
-    const uint64_t answer = terms(board, m, i);
+    for (uint32_t k = 0; k < board->queued; k++) {
+        const struct plain_entry *const entry = &board->queue[k];
+        if (entry->instrument == instrument && entry->number > last && !give(board, entry)) return false;
+    }
+    board->waiting &= (uint16_t)~(1u << instrument);
+    board->reasons[instrument] = SELKAVORN_REASON_NONE;
+    return true;
+}
+
+static uint64_t take(struct plain_board *board, const struct message *m, uint32_t instrument)
+{
+    const uint64_t answer = terms(board, m, instrument);
     if (answer != SELKAVORN_TAKEN) return answer;
-    struct plain_side *const sides = board->sides[i];
+    struct plain_side *const sides = board->sides[instrument];
     empty(sides);
     for (uint32_t k = 0; k < m->n; k++) {
         struct plain_side *const side = &sides[m->entries[k].kind];
         side->places[side->held++] = m->entries[k].values;
     }
-    for (uint32_t k = 0; k < board->queued; k++) {
-        const struct plain_entry *const entry = &board->queue[k];
-        if (entry->instrument == i && entry->number > m->last && !give(board, entry)) return SELKAVORN_REPLAY_BROKE;
+    return replay(board, instrument, m->last) ? SELKAVORN_TAKEN : SELKAVORN_REPLAY_BROKE;
+}
+
+/* ---- loops ---- */
+
+/* Gives a W its place in a loop; true where that makes it whole. */
+static bool go_on(struct plain_loop *loop, const struct message *m, uint16_t named)
+{
+    if (loop->come > 0 && loop->reports == m->reports && loop->come == m->number - 1) {
+        loop->come++;
+        if (m->last < loop->lowest) loop->lowest = m->last;
+        loop->named |= named;
+    } else {
+        *loop = (struct plain_loop){m->reports, m->number == 1, m->last, named};
     }
-    board->waiting &= (uint16_t)~(1u << i);
-    board->reasons[i] = SELKAVORN_REASON_NONE;
+    return loop->come == loop->reports;
+}
+
+/* Each that waits and was not named takes an empty snapshot. One that waits holds no places. */
+static void end_loop(struct plain_board *board)
+{
+    const uint64_t last = board->loop.lowest;
+    board->loop.come = 0;
+    if (last < board->complete || last > board->number) return;
+    for (uint32_t i = 0; i < board->followed; i++)
+        if (waits(board, i) && !(board->loop.named >> i & 1)) replay(board, i, last);
+}
+
+static uint64_t snapshot(struct plain_board *board, const struct message *m)
+{
+    const uint32_t i = find(board, m->id);
+    const uint64_t answer = take(board, m, i);
+    if (go_on(&board->loop, m, i < board->followed ? (uint16_t)(1u << i) : 0)) end_loop(board);
     if (board->waiting == 0) let_go(board, board->number);
-    return SELKAVORN_TAKEN;
+    return answer;
 }
 
 static uint64_t answer(struct plain_board *board, const uint8_t *msg, size_t msg_n)
@@ -550,7 +588,7 @@ static uint64_t answer(struct plain_board *board, const uint8_t *msg, size_t msg
     struct message m;
     if (!read_frame(msg, msg_n, &frame)) return SELKAVORN_FRAME;
     if (!sum_holds(msg, msg_n) || !is_type(frame.type) || !read_typed(board, &frame, &m)) return refusal(msg, msg_n, &frame);
-    return frame.type.at[0] == 'W' ? take(board, &m) : count(board, &m);
+    return frame.type.at[0] == 'W' ? snapshot(board, &m) : count(board, &m);
 }
 
 void plain_open(struct plain_board *board, enum plain_depth depth, const uint64_t *ids, size_t ids_n)

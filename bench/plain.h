@@ -38,6 +38,14 @@ struct plain_entry {
     struct plain_place values;
 };
 
+/* The loop of snapshots that is running. */
+struct plain_loop {
+    uint64_t reports; /* 911 */
+    uint64_t come;    /* 0 where none is running */
+    uint64_t lowest;  /* 369 */
+    uint16_t named;   /* one bit each */
+};
+
 struct plain_board {
     enum plain_depth depth;
     uint32_t followed;
@@ -48,6 +56,7 @@ struct plain_board {
     uint16_t waiting; /* one bit each */
     uint8_t reasons[PLAIN_INSTRUMENTS];
     uint32_t queued;
+    struct plain_loop loop;
     struct plain_side sides[PLAIN_INSTRUMENTS][2];
     struct plain_entry queue[PLAIN_QUEUE];
 };

@@ -33,6 +33,8 @@ RATIOS = ((("feed", "parse"), ("feed", "book"), ("beyond", "plain"), ("scan", "l
           (("feed", "parse"), ("feed", "book"), ("scan", "loop")))
 OTHER_ROWS = (("open", "open, 16 instruments"), ("snapshot", "feed, a snapshot of 40 entries, {bytes:,} bytes"),
               ("plain snapshot", "the same, plain C reader"), ("QuickFIX snapshot", "the same, QuickFIX with its book"),
+              ("loop end", "feed, a snapshot of 40 entries that ends a loop, 15 others go Live, {bytes:,} bytes"),
+              ("plain loop end", "the same, plain C reader"), ("loop goes on", "feed, the same where the loop goes on"),
               ("quote", "quote"), ("sell", "sell, 1 unit"), ("sell, 20 places", "sell, 20 places"), ("write", "write, 40 places"),
               ("state", "state"), ("board", "board"))
 SCAN_ROWS = (("scan", "scan, order ids of 10 bytes"), ("mixed scan", "scan, order ids of 5 and of 10 bytes"),
@@ -65,8 +67,16 @@ NOTES = """\
 - All sides end with the same books: after each case all 16 instruments are quoted and written as snapshots, and each number
   of the quotes and each byte of the snapshots is what the peers hold. One that waited takes its snapshot first, so that the
   queue is compared too. Before anything is timed, the plain reader is asked 20,000 messages, many lost, repeated or harmed: it
-  must give the same answer to each, every answer of a feed must come, and the books must stay the same. The run fails where
-  anything differs.
+  must give the same answer to each, every answer of a feed must come, and the books must stay the same. Whole loops must come too,
+  whose ends make instruments Live with an empty book, make them Live with places, and break them. The run fails where anything
+  differs.
+- A snapshot of 40 entries is one of a loop of 16 that names all 16 instruments, so that the end of the loop brings nothing: all 16 wait
+  before the first, nothing is heard, and none waits after the last. Where 15 others go Live, the loop has two snapshots: the first is of
+  an instrument that is not followed, the second is timed. Before it all 16 wait, and the queue holds 256 entries, drawn evenly over
+  all, that add to books which were empty and change them. It is taken, the 15 others take an empty one each and have their entries
+  replayed, and the queue is let go. The four calls of a round have a store each, which is put back before the round; that is not timed.
+  Where the loop goes on, the same snapshot is the second of three, and the 15 still wait: the difference is what the end takes.
+  QuickFIX's board has neither loops nor a queue, so it has no row; with the plain board all books are compared.
 - `sell` is `selkavorn_sell` of the store and the instrument that are quoted, which has 20 bids: a lot of 1 unit, which takes place 1
   alone, and one of as many units as all bids have, which takes the 20 places whole. It scans the store and makes the quote first, as
   `quote` does. Before it is timed, the books are compared, and all numbers of both lots with what the plain reader's places bring;
@@ -142,7 +152,7 @@ def figures(run, case, what):
 def times(runs, waiting):
     rows = []
     for case in cases(waiting):
-        name = f"{message_name(case)}, {runs[0].bytes[case]:,} bytes"
+        name = f"{message_name(case)}, {runs[0].bytes[case, 'feed']:,} bytes"
         for what, meaning in MESSAGE_ROWS[waiting]:
             rows.append([name, meaning] + [cell for run in runs for cell in figures(run, case, what)])
             name = ""
@@ -162,8 +172,9 @@ def others(runs):
     for depth in DEPTHS:
         case = Case(depth, 0, 0)
         for what, meaning in OTHER_ROWS:
-            if any((case, what) in run.times for run in runs):
-                name = f"{depth} depth: " + meaning.format(bytes=runs[0].bytes[case])
+            lengths = [run.bytes[case, what] for run in runs if (case, what) in run.bytes]
+            if lengths:
+                name = f"{depth} depth: " + meaning.format(bytes=lengths[0])
                 rows.append([name] + [cell for run in runs for cell in figures(run, case, what)])
     for what, meaning in SCAN_ROWS:
         rows.append([f"order depth: {meaning}"] + [cell for run in runs for cell in figures(run, SCANS, what)])
@@ -276,7 +287,8 @@ def measured(runs):
         yield f"## Time of one message, {state}, ns\n"
         yield times(runs, waiting)
     yield "## The other calls\n"
-    yield "On full books, none waiting; each call on a store scans it, but open.\n"
+    yield ("On full books, none waiting, but for the loop: there all 16 wait, and the queue is full. Each call on a store scans it, but "
+           "open.\n")
     yield others(runs)
     yield "## The walk of a recording\n"
     yield ("A time is of one message that was recorded, or of one false start: that of the whole walk divided by how many there are. "

@@ -37,17 +37,12 @@ class Run:
         self.stacks, self.sizes = kept["stacks"], kept["sizes"]
         self.bytes, self.times, self.instructions = {}, {}, {}
         for row in kept["rows"]:
-            of = Recording(row["recording"]) if "recording" in row else self.case(row)
+            of = Recording(row["recording"]) if "recording" in row else Case(row["depth"], row["entries"], row["waiting"])
+            self.bytes[of, row["what"]] = row.get("bytes")
             self.times[of, row["what"]] = row["ns"]
             self.instructions[of, row["what"]] = row["instructions"]
         # A run of a version that walked no recordings has none.
         self.recordings = {(Recording(row["recording"]), row["what"]): row for row in kept.get("recordings", [])}
-
-    def case(self, row):
-        """The case of a row; notes how long its messages are."""
-        case = Case(row["depth"], row["entries"], row["waiting"])
-        self.bytes[case] = max(row["bytes"], self.bytes.get(case, 0))
-        return case
 
     @property
     def machine(self):

@@ -17,8 +17,10 @@
 #define PATTERN 0xA5
 #define NOW "20250103-13:00:00.000"
 #define FIRST_ID 7
+#define OTHER_ID (FIRST_ID + SELKAVORN_MOST_INSTRUMENTS) /* is not followed */
 #define MOST_ENTRIES 64
-#define UNITS 5 /* of each place */
+#define QUEUE 256 /* entries that fill the queue */
+#define UNITS 5   /* of each place */
 
 static uint8_t lent[STACK_BYTES] __attribute__((aligned(64)));
 static uint64_t store[SELKAVORN_STORE_NUMBERS], ids[SELKAVORN_MOST_INSTRUMENTS], numbers[SELKAVORN_QUOTE_NUMBERS];
@@ -138,15 +140,29 @@ static void say_dear(int number)
             SELKAVORN_LARGEST_LOT, SELKAVORN_MOST_PLACES);
 }
 
-/* A W of 20 bids and 20 offers. */
-static void say_w(int s)
+/* An X of 64 entries with this action at place 1 of all sides of 16 instruments in turn. */
+static void say_all(int number, int action)
 {
-    say("35=W|34=1|52=" NOW "|48=%d|22=8|207=BVMF|369=%d|911=1|268=%d|", FIRST_ID, s, 2 * SELKAVORN_MOST_PLACES);
+    say("35=X|34=%d|52=" NOW "|268=%d|", number, MOST_ENTRIES);
+    for (int i = 0; i < MOST_ENTRIES; i++) {
+        const int instrument = i % SELKAVORN_MOST_INSTRUMENTS, side = i / SELKAVORN_MOST_INSTRUMENTS % 2;
+        say("279=%d|269=%d|48=%d|22=8|", action, side, FIRST_ID + instrument);
+        say_values(1);
+    }
+}
+
+/* A W of 20 bids and 20 offers, with this 34 and 911. */
+static void say_w_in_loop(int id, int s, int number, int reports)
+{
+    say("35=W|34=%d|52=" NOW "|48=%d|22=8|207=BVMF|369=%d|911=%d|268=%d|", number, id, s, reports, 2 * SELKAVORN_MOST_PLACES);
     for (int i = 0; i < 2 * SELKAVORN_MOST_PLACES; i++) {
         say("269=%d|", i / SELKAVORN_MOST_PLACES);
         say_values(1 + i % SELKAVORN_MOST_PLACES);
     }
 }
+
+/* One that neither begins nor ends a loop. */
+static void say_w(int s) { say_w_in_loop(FIRST_ID, s, 2, 2); }
 
 /* Makes what was said the message, with `more` added to its sum. */
 static void make_message(unsigned more)
@@ -166,6 +182,16 @@ static void show_feed(const char *what, uint64_t answer, unsigned more)
 {
     make_message(more);
     show("feed", feed, what, answer);
+}
+
+/* Feeds what was said; so many must wait after it. */
+static void show_waiting(const char *what, uint64_t answer, uint64_t waiting)
+{
+    show_feed(what, answer, 0);
+    if (SELKAVORN_WAITING_COUNT(answered) != waiting) {
+        fprintf(stderr, "stack: feed, %s: %d wait, not %d\n", what, (int)SELKAVORN_WAITING_COUNT(answered), (int)waiting);
+        exit(1);
+    }
 }
 
 /* Walks what was said as a recording, which must have so many pieces. */
@@ -247,6 +273,41 @@ static void show_all_followed(void)
     show("state", state, "Waiting", SELKAVORN_DONE);
 }
 
+/* Opens a store of 16 and fills its queue, with entries for all alike: X of 64 with these actions, numbered from 1. */
+static void fill_queue(const int actions[QUEUE / MOST_ENTRIES])
+{
+    followed = SELKAVORN_MOST_INSTRUMENTS;
+    show("open", open_store, "16 instruments", SELKAVORN_DONE);
+    for (int i = 0; i < QUEUE / MOST_ENTRIES; i++) {
+        say_all(1 + i, actions[i]);
+        show_waiting("an X of 64 that joins the queue", SELKAVORN_DONE, SELKAVORN_MOST_INSTRUMENTS);
+    }
+}
+
+/* Ends of loops on stores of 16 that all wait, with a full queue: those that the loop does not name take an empty snapshot each, and
+ * their entries are replayed. */
+static void show_loops(void)
+{
+    static const int fit[] = {0, 1, 0, 2}, do_not_fit[] = {0, 1, 2, 1};
+    const int last = QUEUE / MOST_ENTRIES;
+    fill_queue(fit);
+    say_w_in_loop(OTHER_ID, 0, 1, 2);
+    show_waiting("a snapshot that begins a loop", SELKAVORN_SNAPSHOT_UNFOLLOWED, 16);
+    say_w_in_loop(FIRST_ID, last, 2, 2);
+    show_waiting("a snapshot that ends a loop, 15 others go Live", SELKAVORN_TAKEN, 0);
+    fill_queue(fit);
+    say_w_in_loop(OTHER_ID, 0, 1, 1);
+    show_waiting("a snapshot that is not taken and ends a loop, 16 go Live", SELKAVORN_SNAPSHOT_UNFOLLOWED, 0);
+    fill_queue(fit);
+    say_w_in_loop(FIRST_ID, 0, 1, 1);
+    show_waiting("a snapshot whose replay breaks and that ends a loop, 15 others go Live", SELKAVORN_REPLAY_BROKE, 1);
+    fill_queue(do_not_fit);
+    say_w_in_loop(OTHER_ID, 0, 1, 1);
+    show_waiting("a snapshot that is not taken and ends a loop, 16 replays break", SELKAVORN_SNAPSHOT_UNFOLLOWED, 16);
+    say_w_in_loop(FIRST_ID, last, 1, 1);
+    show_waiting("a snapshot that ends a loop, 15 others go Live without a replay", SELKAVORN_TAKEN, 0);
+}
+
 /* Lots of one instrument with 20 places on both sides: all of them taken, and refusals, a quote's and those of a lot alone. */
 static void show_lots(void)
 {
@@ -295,6 +356,7 @@ int main(void)
     for (uint64_t i = 0; i < SELKAVORN_MOST_INSTRUMENTS; i++) ids[i] = FIRST_ID + i;
     show_one_followed();
     show_all_followed();
+    show_loops();
     show_lots();
     show_recordings();
     return 0;

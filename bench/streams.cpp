@@ -2,7 +2,7 @@
 
 namespace {
 
-constexpr uint64_t FIRST_ID = 3809512;
+constexpr uint64_t FIRST_ID = 3809512, BETWEEN_IDS = 132;
 
 std::string time_of_day(Draw &draw) {
     return "13:" + padded(draw.below(60), 2) + ":" + padded(draw.below(60), 2) + "." + padded(draw.below(1000), 3);
@@ -31,28 +31,64 @@ std::string values(Kind kind, Draw &draw) {
            field(273, time_of_day(draw));
 }
 
-std::string snapshot(Kind kind, int instrument, uint64_t id, Draw &draw) {
+// What a snapshot says of its loop.
+struct InLoop {
+    int number;  // 34
+    int reports; // 911
+    int last;    // 369
+};
+
+std::string snapshot(Kind kind, InLoop in, uint64_t id, Draw &draw) {
     // 369 is a field of QuickFIX's header, so it stands before 48.
-    std::string fields = head(instrument + 1, draw) + field(369, "0") + field(48, std::to_string(id)) + field(22, "8") +
-                         field(207, "BVMF") + field(911, std::to_string(INSTRUMENTS)) + field(268, std::to_string(2 * PLACES));
+    std::string fields = head(in.number, draw) + field(369, std::to_string(in.last)) + field(48, std::to_string(id)) + field(22, "8") +
+                         field(207, "BVMF") + field(911, std::to_string(in.reports)) + field(268, std::to_string(2 * PLACES));
     for (int side = 0; side < 2; side++)
         for (int place = 1; place <= PLACES; place++)
             fields += field(269, std::to_string(side)) + values(kind, draw) + field(290, std::to_string(place));
     return message('W', fields);
 }
 
+std::vector<uint64_t> followed_ids() {
+    std::vector<uint64_t> ids;
+    for (int i = 0; i < INSTRUMENTS; i++) ids.push_back(FIRST_ID + BETWEEN_IDS * i);
+    return ids;
+}
+
 // Places held, by instrument and side.
 using Held = int[INSTRUMENTS][2];
 
-std::string entry(Kind kind, const std::vector<uint64_t> &ids, Held held, Draw &draw) {
+enum Action { NEW, CHANGE, DELETE };
+
+std::string entry(Kind kind, Action action, unsigned side, uint64_t id, unsigned place, Draw &draw) {
+    return field(279, std::to_string(action)) + field(269, std::to_string(side)) + field(48, std::to_string(id)) + field(22, "8") +
+           field(207, "BVMF") + (action == DELETE ? "" : values(kind, draw)) + field(290, std::to_string(place));
+}
+
+// An entry that keeps full books full.
+std::string full_entry(Kind kind, const std::vector<uint64_t> &ids, Held held, Draw &draw) {
     unsigned instrument = draw.below(INSTRUMENTS), side = draw.below(2), place = 1 + draw.below(PLACES - 1);
     int &places = held[instrument][side];
     bool change = draw.below(2) == 0;
-    int action = change ? 1 : places == PLACES ? 2 : 0;
-    if (action == 0) places++;
-    if (action == 2) places--;
-    return field(279, std::to_string(action)) + field(269, std::to_string(side)) + field(48, std::to_string(ids[instrument])) +
-           field(22, "8") + field(207, "BVMF") + (action == 2 ? "" : values(kind, draw)) + field(290, std::to_string(place));
+    Action action = change ? CHANGE : places == PLACES ? DELETE : NEW;
+    if (action == NEW) places++;
+    if (action == DELETE) places--;
+    return entry(kind, action, side, ids[instrument], place, draw);
+}
+
+// An entry that lets empty books grow.
+std::string growing_entry(Kind kind, const std::vector<uint64_t> &ids, Held held, Draw &draw) {
+    unsigned instrument = draw.below(INSTRUMENTS), side = draw.below(2);
+    int &places = held[instrument][side];
+    bool change = places == PLACES || (places > 0 && draw.below(2) == 0);
+    if (!change) places++;
+    return entry(kind, change ? CHANGE : NEW, side, ids[instrument], 1 + draw.below(static_cast<unsigned>(places)), draw);
+}
+
+// An X of as many entries, each given by `next`.
+template <typename Next> std::string changes(int number, int entries, Draw &draw, Next next) {
+    std::string fields = head(number, draw) + field(268, std::to_string(entries));
+    for (int i = 0; i < entries; i++) fields += next();
+    return message('X', fields);
 }
 
 } // namespace
@@ -77,15 +113,25 @@ Stream make_stream(Depth depth, int messages, int entries, Ids ids) {
     Draw draw;
     Stream stream;
     Held held;
+    stream.ids = followed_ids();
     for (int i = 0; i < INSTRUMENTS; i++) {
-        stream.ids.push_back(FIRST_ID + 132 * i);
-        stream.snapshots.push_back(snapshot(kind, i, stream.ids[i], draw));
+        stream.snapshots.push_back(snapshot(kind, {i + 1, INSTRUMENTS, 0}, stream.ids[i], draw));
         held[i][0] = held[i][1] = PLACES;
     }
-    for (int n = 1; n <= messages; n++) {
-        std::string fields = head(n, draw) + field(268, std::to_string(entries));
-        for (int i = 0; i < entries; i++) fields += entry(kind, stream.ids, held, draw);
-        stream.changes.push_back(message('X', fields));
-    }
+    for (int n = 1; n <= messages; n++)
+        stream.changes.push_back(changes(n, entries, draw, [&] { return full_entry(kind, stream.ids, held, draw); }));
     return stream;
+}
+
+Loop make_loop(Depth depth, int messages, int entries, int reports) {
+    const Kind kind = {depth, LONG_IDS};
+    Draw draw;
+    Loop loop;
+    Held held = {};
+    loop.ids = followed_ids();
+    for (int n = 1; n <= messages; n++)
+        loop.changes.push_back(changes(n, entries, draw, [&] { return growing_entry(kind, loop.ids, held, draw); }));
+    loop.first = snapshot(kind, {1, reports, 0}, loop.ids.back() + BETWEEN_IDS, draw);
+    loop.second = snapshot(kind, {2, reports, messages}, loop.ids.front(), draw);
+    return loop;
 }

@@ -29,6 +29,15 @@ struct Stream {
     std::vector<std::string> changes;   // X, numbered from 1
 };
 
+// Changes of books that were empty, and the first two snapshots of a loop. The first is of an instrument that is not followed, with
+// 369 = 0, so that the end of the loop reaches back to before the first X. The second is of the first instrument that is followed,
+// with 369 = the number of the last X.
+struct Loop {
+    std::vector<uint64_t> ids;        // the SecurityIDs followed
+    std::vector<std::string> changes; // X, numbered from 1
+    std::string first, second;        // W of 20 bids and 20 offers each
+};
+
 // The digits of a number, with zeros before them.
 std::string padded(uint64_t value, size_t width);
 
@@ -41,3 +50,7 @@ std::string message(char type, const std::string &fields);
 // `messages` X of `entries` entries each. Instruments, sides and places are drawn evenly. At a side of 20 places an entry is a
 // change or a delete, at one of 19 a change or a new, each as often as the other, so that sides hold 19 or 20.
 Stream make_stream(Depth depth, int messages, int entries, Ids ids = LONG_IDS);
+
+// `messages` X of `entries` entries each, and a loop of `reports` snapshots. Instruments, sides and places are drawn evenly. At a side
+// without places an entry is a new, at a full one a change, else a change or a new, each as often as the other.
+Loop make_loop(Depth depth, int messages, int entries, int reports);

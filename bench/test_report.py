@@ -9,13 +9,15 @@ from report import CALLS, RECORDINGS, judged, page, verdict
 from results import EVEN, MIXED, SCANS, STARTS, STATES, Case, Recording, Run, cases, row_name, spread
 
 WHATS = ("feed", "scan", "loop", "plain", "parse", "validate", "book")
-OTHERS = ("open", "snapshot", "plain snapshot", "QuickFIX snapshot", "quote", "sell", "sell, 20 places", "write", "state")
+OTHERS = ("open", "snapshot", "plain snapshot", "QuickFIX snapshot", "loop end", "plain loop end", "loop goes on", "quote", "sell",
+          "sell, 20 places", "write", "state")
 SCAN_WHATS = ("scan", "mixed scan", "loop", "plain loop", "scalar loop")
+BYTES = {"loop end": 172}  # of a message; all others have 171
 HEADERS = pathlib.Path(__file__).resolve().parent.parent / "include"
 
 
 def row(of, what, ns):
-    named = {"recording": of.name} if isinstance(of, Recording) else {**of._asdict(), "bytes": 171}
+    named = {"recording": of.name} if isinstance(of, Recording) else {**of._asdict(), "bytes": BYTES.get(what, 171)}
     return {**named, "what": what, "ns": ns, "instructions": None}
 
 
@@ -82,6 +84,17 @@ class Report(unittest.TestCase):
                          ["walk", "5", "5,000", "20", "20 to 20 (0.0%)", "-", "0.20 (0.20 to 0.20)"])
         starts = next(line for line in text.splitlines() if line.startswith("| false starts, 1,000 bytes, 10 starts"))
         self.assertEqual(starts.split("|")[-2].strip(), "-")
+
+    def test_the_end_of_a_loop_has_rows_behind_the_snapshot(self):
+        loop = {"loop end": 130.0, "plain loop end": 120.0, "loop goes on": 110.0}
+        text = "\n".join(page("v1", [made(changed={(Case("price", 0, 0), what): [ns] * 3 for what, ns in loop.items()})]))
+        rows = [[cell.strip() for cell in line.split("|")[1:3]] for line in text.splitlines()]
+        at = rows.index(["price depth: the same, QuickFIX with its book", "100"])
+        self.assertEqual(rows[at - 2], ["price depth: feed, a snapshot of 40 entries, 171 bytes", "100"])
+        self.assertEqual(rows[at + 1:at + 4],
+                         [["price depth: feed, a snapshot of 40 entries that ends a loop, 15 others go Live, 172 bytes", "130"],
+                          ["price depth: the same, plain C reader", "120"],
+                          ["price depth: feed, the same where the loop goes on", "110"]])
 
     def test_lots_have_rows_behind_the_quote(self):
         lots = {(Case("price", 0, 0), "sell"): [110.0] * 3, (Case("price", 0, 0), "sell, 20 places"): [120.0] * 3}
