@@ -83,7 +83,9 @@ def main():
         (end, "spare", "spare", 1)])
     heading = {store["AT_LAYOUT"]: f"layout, {store['LAYOUT']}", store["DEPTH"]: "depth kind",
                store["FOLLOWED"]: "instruments followed", store["NUMBER"]: "H", store["BASE"]: "B",
-               store["HEARD"]: "heard moment", store["MARKS"]: "Waiting marks", store["QUEUED"]: "queue length"}
+               store["HEARD"]: "heard moment", store["MARKS"]: "Waiting marks", store["QUEUED"]: "queue length",
+               store["LOOPS"]: "loop: its 911", store["COME"]: "loop: how many have come", store["LOW"]: "loop: the lowest 369",
+               store["NAMED"]: "loop: who was named"}
     drawing.bar(f"The heading: its first {store['IDS']} numbers", 0,
                 [(1, "heading", heading[place], 1) for place in sorted(heading)]
                 + [(store["HEADING_SPARE_SIZE"], "spare", "spare", store["HEADING_SPARE_SIZE"])])
