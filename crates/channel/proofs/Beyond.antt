@@ -1,13 +1,14 @@
--- A message changes numbers of the 7,168 alone: the store keeps its length, and what lies beyond them.
+-- A message changes numbers of the 7,168 alone, from the records on: the store keeps its length, what lies beyond them, and what it
+-- holds of the heading and of the loop's record, which go by value.
 use mathlib.Core.Path.{_≡_, refl, sym, _∙_}
 use mathlib.Core.Bool.{Bool, true, false, cond, _||_}
 use mathlib.Core.List.{List, [], _∷_}
-use mathlib.Core.Logic.{inr}
+use mathlib.Core.Logic.{inl, inr}
 use Prim.Native.Nat.{ℕ, _+_, _≤_, _<_}
 use native.Mathlib.Omega.{arith}
 use lib.Dec.{ltb, leb, eqb}
-use lib.ListN.{length, drop, length-drop}
-use lib.Seq.{sets, ext-getD, getD-drop}
+use lib.ListN.{length, take, drop, length-take, length-drop}
+use lib.Seq.{sets, ext-getD, getD-take, getD-drop}
 use borrow.Author.Tests.{ltb-false, leb-false, eqb-true}
 use Rattle.book.specs.declared.Book.{Book}
 use Rattle.book.specs.declared.Update.{Update}
@@ -21,7 +22,7 @@ use Rattle.heading.specs.Marks.{marked}
 use Rattle.message.specs.Message.{Message, numbered, snapshot, refused}
 use Rattle.board.specs.Board.{look}
 use Rattle.board.specs.Snapshot.{shown, tooWide}
-use Rattle.store.specs.Layout.{storeSize, reasonOf, bidsOf, offersOf, slotOf}
+use Rattle.store.specs.Layout.{storeSize, headingSize, reasonOf, bidsOf, offersOf, slotOf}
 use Rattle.store.specs.Meaning.{queuedAt, State, st, boardIn}
 use Rattle.store.specs.Canon.{Formed}
 use Rattle.store.specs.Steps.{gapS}
@@ -41,13 +42,22 @@ use Rattle.taking.proofs.Outcomes.{replay-kept}
 use Rattle.taking.proofs.Board.{not-refused}
 use Rattle.channel.specs.Feeds.{aimedAt, feedS}
 
--- t's store is s's but for numbers of the 7,168
+-- t's store is s's but for numbers of the 7,168 from the records on
 abbrev pub Within : State → State → Type 0
-Within s t = Agree 0 7168 (s .store) (t .store)
+Within s t = Agree 32 7168 (s .store) (t .store)
 
--- so it is the same beyond them
-pub beyond : (xs ys : List ℕ) → Agree 0 7168 xs ys → drop storeSize ys ≡ drop storeSize xs
-beyond xs ys a =
+-- so it is the same in front of them
+pub front : (xs ys : List ℕ) → Agree 32 7168 xs ys → take headingSize ys ≡ take headingSize xs
+front xs ys a =
+    let n = a .long in
+    ext-getD 0 (take headingSize ys) (take headingSize xs) (length-take headingSize ys ∙ rw n (sym (length-take headingSize xs)))
+    (λ k l.
+    let h : k < headingSize = omega (arith, length-take headingSize ys) in
+    getD-take headingSize ys k 0 h ∙ a .outside k (inl h) ∙ sym (getD-take headingSize xs k 0 h))
+
+-- and beyond the 7,168
+pub beyond : (lo : ℕ) (xs ys : List ℕ) → Agree lo 7168 xs ys → drop storeSize ys ≡ drop storeSize xs
+beyond lo xs ys a =
     let n = a .long in
     ext-getD 0 (drop storeSize ys) (drop storeSize xs) (length-drop storeSize ys ∙ rw n (sym (length-drop storeSize xs)))
     (λ k _. getD-drop storeSize ys k 0 ∙ a .outside (storeSize + k) (inr (omega arith)) ∙ sym (getD-drop storeSize xs k 0))
@@ -55,20 +65,20 @@ beyond xs ys a =
 -- ---- the queue
 
 let-go-within : (s : State) → Within s (letGoS s)
-let-go-within s = agree-wider 0 7168 (omega arith) (omega arith) (agree-zeros (s .store) 4256 2816)
+let-go-within s = agree-wider 32 7168 (omega arith) (omega arith) (agree-zeros (s .store) 4256 2816)
 
 settle-within : (s : State) → Within s (settleS s)
-settle-within s = by-test (Within s) (eqb (s .head .marks) 0) (λ _. let-go-within s) (λ _. agree-none 0 7168 (s .store))
+settle-within s = by-test (Within s) (eqb (s .head .marks) 0) (λ _. let-go-within s) (λ _. agree-none 32 7168 (s .store))
 
 one-within : (n : ℕ) (u : Update) (s : State) → s .head .queued + cond (ltb (u .who) (s .head .followed)) 1 0 ≤ 256 → Within s (joinOneS n u s)
 one-within n u s r =
     by-test (Within s) (ltb (u .who) (s .head .followed))
-    (λ _. agree-wider 0 7168 (omega arith) (omega arith) (agree-sets (s .store) (slotOf (s .head .queued)) (queuedWords n u) 10 refl))
-    (λ _. agree-none 0 7168 (s .store))
+    (λ _. agree-wider 32 7168 (omega arith) (omega arith) (agree-sets (s .store) (slotOf (s .head .queued)) (queuedWords n u) 10 refl))
+    (λ _. agree-none 32 7168 (s .store))
 
 all-within : (n : ℕ) (us : List Update) (s : State) → s .head .queued + howMany (s .head .followed) us ≤ 256 → Within s (joinAllS n us s)
 unfolding joinAllS howMany
-all-within n [] s h = agree-none 0 7168 (s .store)
+all-within n [] s h = agree-none 32 7168 (s .store)
 all-within n (u ∷ us) s h =
     agree-then (one-within n u s (omega arith)) (all-within n us (joinOneS n u s) (rw (one-queued n u s, one-followed n u s) (omega arith)))
 
@@ -82,26 +92,26 @@ break-within : (i r : ℕ) (s : State) → i < 16 → Within s (breakS i r s)
 break-within i r s h =
     let xs = s .store in
     let ys = sets xs (bidsOf i) (zeros 256) in
-    agree-then (agree-wider 0 7168 (omega arith) (omega arith) (agree-zeros xs (bidsOf i) 256))
-    (agree-wider 0 7168 (omega arith) (omega arith) (agree-sets ys (reasonOf i) (r ∷ []) 1 refl))
+    agree-then (agree-wider 32 7168 (omega arith) (omega arith) (agree-zeros xs (bidsOf i) 256))
+    (agree-wider 32 7168 (omega arith) (omega arith) (agree-sets ys (reasonOf i) (r ∷ []) 1 refl))
 
 land-within : (u : Update) (s : State) → Formed s → u .who < s .head .followed → Within s (landS (u .who) (applyS (u .who) u (s .store)) s)
 land-within u s f l =
     let i = u .who in
     let t = applyS i u (s .store) in
     let few : s .head .followed ≤ 16 = f .few in
-    let a : Agree 0 7168 (s .store) (t .store) = agree-wider 0 7168 (omega arith) (omega arith) (applies s f i l u .agree) in
+    let a : Agree 32 7168 (s .store) (t .store) = agree-wider 32 7168 (omega arith) (omega arith) (applies s f i l u .agree) in
     by-test (Within s) (eqb (t .reason) 0) (λ _. a) (λ _. agree-then a (break-within i (t .reason) (st (s .head) (t .store)) (omega arith)))
 
 give-within : (u : Update) (s : State) → Formed s → Within s (giveS u s)
 unfolding giveS
 give-within u s f =
-    by-test (Within s) (leb (s .head .followed) (u .who)) (λ _. agree-none 0 7168 (s .store))
-    (λ e. by-test (Within s) (marked (s .head .marks) (u .who)) (λ _. agree-none 0 7168 (s .store)) (λ _. land-within u s f (leb-false _ _ e)))
+    by-test (Within s) (leb (s .head .followed) (u .who)) (λ _. agree-none 32 7168 (s .store))
+    (λ e. by-test (Within s) (marked (s .head .marks) (u .who)) (λ _. agree-none 32 7168 (s .store)) (λ _. land-within u s f (leb-false _ _ e)))
 
 gives-within : (us : List Update) (s : State) → Formed s → Within s (giveAllS us s)
 unfolding giveAllS
-gives-within [] s f = agree-none 0 7168 (s .store)
+gives-within [] s f = agree-none 32 7168 (s .store)
 gives-within (u ∷ us) s f = agree-then (give-within u s f) (gives-within us (giveS u s) (give-formed u s f))
 
 -- ---- a number
@@ -117,10 +127,10 @@ count-within a n heard us s f =
 number-within : (n heard : ℕ) (us : List Update) (s : State) → Formed s → Within s (numberS n heard us s .state)
 unfolding numberS
 number-within n heard us s f =
-    by-test (λ (o : FedS). Within s (o .state)) (leb n (s .head .number)) (λ _. agree-none 0 7168 (s .store))
+    by-test (λ (o : FedS). Within s (o .state)) (leb n (s .head .number)) (λ _. agree-none 32 7168 (s .store))
     (λ _. by-test (λ (o : FedS). Within s (o .state)) (leb n (s .head .number + 1)) (λ _. count-within 0 n heard us s f)
     (λ _.
-    agree-then (agree-wider 0 7168 (omega arith) (omega arith) (agree-zeros (s .store) 160 6912))
+    agree-then (agree-wider 32 7168 (omega arith) (omega arith) (agree-zeros (s .store) 160 6912))
     (count-within 1 n heard us (gapS n s) (gap-canon n s f .formed))))
 
 -- ---- a snapshot
@@ -130,9 +140,9 @@ live-within i b s h k =
     let xs = s .store in
     let ys = sets xs (bidsOf i) (sideWords (b .bids)) in
     let zs = sets ys (offersOf i) (sideWords (b .offers)) in
-    agree-then (agree-wider 0 7168 (omega arith) (omega arith) (agree-sets xs (bidsOf i) (sideWords (b .bids)) sideSize (length-side-words (b .bids) (k .bids .full))))
-    (agree-then (agree-wider 0 7168 (omega arith) (omega arith) (agree-sets ys (offersOf i) (sideWords (b .offers)) sideSize (length-side-words (b .offers) (k .offers .full))))
-    (agree-wider 0 7168 (omega arith) (omega arith) (agree-sets zs (reasonOf i) (0 ∷ []) 1 refl)))
+    agree-then (agree-wider 32 7168 (omega arith) (omega arith) (agree-sets xs (bidsOf i) (sideWords (b .bids)) sideSize (length-side-words (b .bids) (k .bids .full))))
+    (agree-then (agree-wider 32 7168 (omega arith) (omega arith) (agree-sets ys (offersOf i) (sideWords (b .offers)) sideSize (length-side-words (b .offers) (k .offers .full))))
+    (agree-wider 32 7168 (omega arith) (omega arith) (agree-sets zs (reasonOf i) (0 ∷ []) 1 refl)))
 
 take-within : (i S : ℕ) (b : Book) (s : State) → i < 16 → KeptBook b → Within s (takeS i S b s .state)
 unfolding takeS
@@ -157,11 +167,11 @@ snap-within d S us s f =
     let i = look d (boardIn s .insts) in
     let few : s .head .followed ≤ 16 = f .few in
     by-test (λ (o : FedS). Within s (o .state)) (eqb (refusalOf (s .head) i S) 0)
-    (λ e. by-test (λ (o : FedS). Within s (o .state)) (tooWide (shown us)) (λ _. agree-none 0 7168 (s .store))
+    (λ e. by-test (λ (o : FedS). Within s (o .state)) (tooWide (shown us)) (λ _. agree-none 32 7168 (s .store))
     (λ w.
     let l = not-refused S us s f i (eqb-true _ _ e) in
     take-within i S (bookOf (shown us)) s (omega arith) (narrow (shown us) w)))
-    (λ _. agree-none 0 7168 (s .store))
+    (λ _. agree-none 32 7168 (s .store))
 
 -- ---- a message
 
@@ -169,4 +179,4 @@ pub feed-within : (m : Message) (s : State) → Formed s → Within s (feedS m s
 unfolding feedS
 feed-within (numbered n heard us) s f = number-within n heard (aimedAt s us) s f
 feed-within (snapshot h us) s f = snap-within (h .id) (h .last) (aimedAt s us) s f
-feed-within (refused why) s f = agree-none 0 7168 (s .store)
+feed-within (refused why) s f = agree-none 32 7168 (s .store)

@@ -2,13 +2,14 @@
 use mathlib.Core.Path.{_≡_}
 use mathlib.Core.List.{List, map}
 use Prim.Native.Nat.{ℕ, _*_, _≤_}
-use lib.ListN.{length, getD}
+use lib.ListN.{length, getD, take, drop}
 use Rattle.book.specs.declared.Update.{Update}
 use Rattle.message.specs.Message.{Message, numbered, snapshot, refused, answerOf}
 use Rattle.board.specs.Board.{out}
 use Rattle.board.specs.Count.{aimed}
 use Rattle.board.specs.Feed.{feed}
 use Rattle.cells.specs.Runs.{updateSize, updatesIn}
+use Rattle.store.specs.Layout.{storeSize, headingSize}
 use Rattle.store.specs.Meaning.{State, boardIn}
 use Rattle.store.specs.Canon.{Canon}
 use Rattle.store.specs.Answers.{FedS, fed}
@@ -31,6 +32,12 @@ unfoldable pub feedS : Message → State → FedS
 feedS (numbered n heard us) s = numberS n heard (aimedAt s us) s
 feedS (snapshot h us) s = snapS (h .id) (h .last) (aimedAt s us) s
 feedS (refused why) s = fed (answerOf why) s
+
+-- The numbers of the store in front of the records, those of the heading and of the loop's record, which go by value, and those beyond
+-- the 7,168 are as they were.
+pub record Around (s t : State) : Type 0 where
+  pub front : take headingSize (t .store) ≡ take headingSize (s .store)
+  pub beyond : drop storeSize (t .store) ≡ drop storeSize (s .store)
 
 -- What a call leaves: the answer and every number of the store, what they mean, and a store that is canonical again.
 pub record Feeds (m : Message) (s : State) (a : ℕ) (t : State) : Type 0 where

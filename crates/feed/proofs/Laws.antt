@@ -21,7 +21,7 @@ use Rattle.loops.specs.Channel.{Reply, joinedBy, rounded, given}
 use Rattle.loops.specs.Laws.{touches}
 use Rattle.loops.specs.Sound.{soundChannel}
 use Rattle.loops.proofs.Laws as loops
-use Rattle.loops.proofs.Laws.{keeps-sound, given-answer, refused-rounds}
+use Rattle.loops.proofs.Laws.{keeps-sound, answer-is-own, refused-rounds}
 use Rattle.loops.proofs.Sounding.{channel-tested}
 use Rattle.fields.specs.Messages.{messageIn}
 use Rattle.inrange.proofs.Read.{read-in-range}
@@ -106,7 +106,7 @@ refused-loops bytes xs = go (sound xs) refl
         → Looped bytes xs (cond z (written (o .channel) ++ drop storeSize xs) xs)
     go false q h = absurd (false≢true h)
     go true q h =
-        let e = given-answer m (channelAt xs) in
+        let e = answer-is-own m (channelAt xs) in
         let n : within 5 9 (o .answer) ≡ true = rw (below (o .answer) (waitingIn (o .channel .board .insts)) (rw e (in-table m (boardAt xs)))) at h in
         by-five m (feed m (boardAt xs) .answer) (Looped bytes xs (written (o .channel) ++ drop storeSize xs)) (answers-in-table m (boardAt xs)) (rw e at n) (λ k us s.
         let r : o .channel ≡ rounded (joinedBy k (boardAt xs) (loopAt xs)) (boardAt xs) = rw s (refused-rounds k us (channelAt xs) (rw s at n)) in

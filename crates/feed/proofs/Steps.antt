@@ -20,7 +20,7 @@ use Rattle.heading.specs.declared.Heading.{Heading}
 use Rattle.heading.specs.Marks.{markedIn}
 use Rattle.loops.specs.declared.Loop.{Loop}
 use Rattle.loops.specs.Channel.{Reply, given}
-use Rattle.loops.proofs.Laws.{given-answer}
+use Rattle.loops.proofs.Laws.{answer-is-own}
 use Rattle.store.specs.Meaning.{State, st, boardOf, boardAt, loopAt, channelAt, boardIn, loaded, headingAt, saved, withLoop}
 use Rattle.store.specs.Canon.{Canon}
 use Rattle.store.proofs.Marked.{waiting-board}
@@ -76,7 +76,7 @@ module _ (bytes xs : List ℕ) where
 
     -- 01's table ends there
     pub small : a ≤ 25
-    small = rw (left .answer, given-answer m (channelAt xs)) (in-table m (boardAt xs))
+    small = rw (left .answer, answer-is-own m (channelAt xs)) (in-table m (boardAt xs))
 
     -- the marks that are counted are the instruments that wait
     pub done : (n : ℕ) → n ≡ markedIn (t .head .marks) 16 → Fed bytes xs (a + 256 * n) (withLoop row (saved t))

@@ -1,5 +1,4 @@
-// One message on the store (document 01): 17 first, then 11 to 14, then the rest; nothing is written before the last
-// refusal is past.
+// One message on the store (document 01; document 02, K1): 17 first, then 11 to 14, then the rest.
 ghost use Rattle.feed.specs.Feeding.{Fed};
 
 // The Waiting count stands above the answer.

@@ -2,7 +2,7 @@
 use mathlib.Core.Path.{refl}
 use Rattle.book.specs.Rules.{applied, afterAction, afterNew, afterDelete}
 use Rattle.heading.specs.Marks.{marked, withMark}
-use Rattle.board.specs.Board.{anyWaiting, look}
+use Rattle.board.specs.Board.{anyWaiting, waitingIn, look}
 use Rattle.board.specs.Count.{joining, hit, give, gives, count, number}
 use Rattle.board.specs.Feed.{feed}
 use Rattle.board.specs.Snapshot.{entriesOf, run, after, take, snap}
@@ -12,7 +12,7 @@ use Rattle.loops.specs.Channel.{given}
 use Rattle.loops.specs.Cases.{LoopCases}
 
 pub loop-cases : LoopCases
-unfolding applied afterAction afterNew afterDelete anyWaiting look joining hit give gives count number entriesOf run after take snap feed given inRow isWhole withName lower ending.atEnd ending.ends ending.ended marked withMark
+unfolding applied afterAction afterNew afterDelete anyWaiting waitingIn look joining hit give gives count number entriesOf run after take snap feed given inRow isWhole withName lower ending.atEnd ending.ends ending.ended marked withMark
 loop-cases =
     record {
       bid-answer = refl;
@@ -26,4 +26,10 @@ loop-cases =
       gone-reason = refl;
       gone-book = refl;
       gone-base = refl;
+      gone-queue = refl;
+      gone-loop = refl;
+      other-answer = refl;
+      other-7 = refl;
+      other-9 = refl;
+      other-waits = refl;
     }

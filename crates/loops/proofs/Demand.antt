@@ -15,7 +15,7 @@ use Rattle.board.proofs.Demand as boards
 use Rattle.board.proofs.Keeping.{opened-sound}
 use Rattle.board.proofs.Recovery as books
 use Rattle.loops.specs.Channel.{Channel}
-use Rattle.loops.specs.Calls.{calls, Throughout, openedChannel}
+use Rattle.loops.specs.Calls.{Throughout, openedChannel}
 use Rattle.loops.specs.Demand.{RightBy, Demand3, FairBy, Recovers}
 use Rattle.loops.specs.Sound.{SoundChannel}
 use Rattle.loops.proofs.Sounding.{no-loop-sound}

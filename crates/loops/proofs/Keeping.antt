@@ -10,7 +10,6 @@ use Rattle.board.specs.Board.{Inst, Queued, Board, idsOf, anyWaiting, withInsts
 use Rattle.board.specs.Feed.{feed}
 use Rattle.board.specs.Calls.{Call, fed, aside}
 use Rattle.board.specs.Laws.{Same}
-use Rattle.board.specs.Ranges.{within}
 use Rattle.board.proofs.Staying.{same, same-then, same-feed}
 use Rattle.loops.specs.declared.Loop.{Loop}
 use Rattle.loops.specs.Ending.{took, takesIt, emptyAfter, atEnd, ends, serves, ended}

@@ -28,7 +28,7 @@ use Rattle.loops.specs.Loops.{noLoop, withName, isNext, inRow, isWhole}
 use Rattle.loops.specs.Ending.{atEnd, ends, serves, ended}
 use Rattle.loops.specs.Channel.{Channel, joinedBy, rounded, given}
 use Rattle.loops.specs.Sound.{SoundChannel}
-use Rattle.loops.specs.Laws.{emptyFor, unnamed, NamedStays, LiveStays, OwnStays, KeepsSound, ofSnapshot, touches, RefusedStays, RefusedRounds}
+use Rattle.loops.specs.Laws.{emptyFor, unnamed, NamedStays, LiveStays, OwnStays, KeepsSound, AnswerIsOwn, ofSnapshot, touches, RefusedStays, RefusedRounds}
 use Rattle.loops.proofs.Joins.{is-named}
 use Rattle.loops.proofs.Keeping.{ended-same, rounded-same}
 use Rattle.loops.proofs.Sounding.{no-loop-sound, in-row-sound, in-row-low}
@@ -155,12 +155,11 @@ keeps-sound (snapshot h us) c s f =
 
 -- ---- answers
 
--- the answer is the one that the message itself earned
-pub given-answer : (m : Message) (c : Channel) → given m c .answer ≡ feed m (c .board) .answer
+pub answer-is-own : AnswerIsOwn
 unfolding given
-given-answer (numbered n heard us) c = refl
-given-answer (snapshot h us) c = refl
-given-answer (refused why) c = refl
+answer-is-own (numbered n heard us) c = refl
+answer-is-own (snapshot h us) c = refl
+answer-is-own (refused why) c = refl
 
 -- an answer that is counted, or not
 counted-not : (a : ℕ) → touches a ≡ false → isCounted a ≡ false

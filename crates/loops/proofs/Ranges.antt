@@ -1,11 +1,10 @@
 -- The tests of a loop's record, as the code makes them.
 use mathlib.Core.Path.{_≡_, refl, sym}
 use mathlib.Core.Bool.{Bool, true, false, _&&_}
-use Prim.Native.Nat.{ℕ, _+_, _*_, _/_, _%_, _^_, _<_}
-use native.Mathlib.Nat.{div-eq-of-lt, mod-lt}
+use Prim.Native.Nat.{ℕ, _/_, _^_}
+use native.Mathlib.Nat.{div-eq-of-lt}
 use native.Mathlib.Omega.{arith}
 use lib.Dec.{leb, ltb, eqb}
-use lib.Pow.{pow-pos, split}
 use borrow.Author.Tests.{eq-eqb, ne-eqb, ltb-true, ltb-false}
 use Rattle.heading.proofs.Bits.{no-bit}
 use Rattle.message.specs.Message.{mostNumber}

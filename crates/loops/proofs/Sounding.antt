@@ -65,9 +65,6 @@ module _ (k : ℕ) (l : Loop) where
   pub come-below : soundLoop k l ≡ true → l .come ≤ mostNumber
   come-below e = by-loop (l .come ≤ mostNumber) e (λ c _ _. omega (arith, c)) (λ r. omega (arith, r .fewer, r .loops))
 
-  pub low-below : soundLoop k l ≡ true → l .low ≤ mostNumber
-  low-below e = by-loop (l .low ≤ mostNumber) e (λ _ c _. omega (arith, c)) (λ r. r .low)
-
   pub named-below : soundLoop k l ≡ true → l .named < 2 ^ k
   named-below e = by-loop (l .named < 2 ^ k) e (λ _ _ c. rw c (pow-pos k)) (λ r. r .named)
 

@@ -37,7 +37,7 @@ AtEnd d P (aside a) c = Unit {0}
 abbrev pub RightBy : List Message → ℕ → Call → Channel → Type 0
 RightBy ms d k c = Right ms d k (c .board) × AtEnd d (λ S. bookAt ms d S ≡ leaves empty) k c
 
--- Demand 3 of messages in range.
+-- Demand 3 of messages in range, as every message is that is read.
 abbrev pub Demand3 : Type 0
 Demand3 =
     (ms : List Message) → NumberedFromOne ms → (d : ℕ) → NeverBreaks ms d

@@ -8,6 +8,7 @@ use Rattle.book.specs.declared.Update.{Update}
 use Rattle.message.specs.Message.{Message, Head, snapshot}
 use Rattle.heading.specs.Marks.{marked}
 use Rattle.board.specs.Board.{Inst, Board, opened, look}
+use Rattle.board.specs.Feed.{feed}
 use Rattle.board.specs.Calls as board
 use Rattle.board.specs.Calls.{Call, fed, isCounted, inst}
 use Rattle.board.specs.Laws.{Same}
@@ -20,11 +21,12 @@ use Rattle.loops.specs.Calls.{calls, openedChannel}
 use Rattle.loops.specs.Sound.{SoundChannel}
 use Rattle.loops.specs.Rows.{cameIn, loopAfter}
 
--- The loop's end is snapshots: it leaves the board that a W with no entries and 369 the lowest would for each instrument, from index i
--- on, that the loop did not name.
+-- The loop's end is snapshots: it leaves the board that a W with no entries and 369 the lowest would, for one instrument after another
+-- that the loop did not name.
 abbrev pub emptyFor : ℕ → ℕ → Message
 emptyFor d S = snapshot (record { number = 1; heard = 0; id = d; last = S; loops = 1 }) []
 
+-- These calls for the instruments from index i on.
 unfoldable pub unnamed : Loop → ℕ → List Inst → List Call
 unnamed l i [] = []
 unnamed l i (x ∷ xs) = cond (marked (l .named) i) (unnamed l (suc i) xs) (fed (emptyFor (x .id) (l .low)) ∷ unnamed l (suc i) xs)
@@ -62,7 +64,11 @@ EndKeeps = (l : Loop) (b : Board) → Keeps b (ended l b)
 abbrev pub KeepsSound : Type 0
 KeepsSound = (m : Message) (c : Channel) → SoundChannel c → messageFine (c .board .depth) m ≡ true → SoundChannel (given m c .channel)
 
--- The answers that change a store: those of a counted message, and those of every W that is read.
+-- The answer number stays the one that the message itself earned.
+abbrev pub AnswerIsOwn : Type 0
+AnswerIsOwn = (m : Message) (c : Channel) → given m c .answer ≡ feed m (c .board) .answer
+
+-- The answers that may change a store: those of a counted message, and those of every W that is read.
 abbrev pub ofSnapshot : ℕ → Bool
 ofSnapshot a = within 4 10 a
 

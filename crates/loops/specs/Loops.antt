@@ -3,7 +3,6 @@
 use mathlib.Core.Bool.{Bool, cond, _&&_}
 use Prim.Native.Nat.{ℕ, _+_}
 use lib.Dec.{leb, ltb, eqb}
-use Rattle.message.specs.declared.Reading.{Reading}
 use Rattle.message.specs.Message.{Head}
 use Rattle.heading.specs.Marks.{withMark}
 use Rattle.loops.specs.declared.Loop.{Loop}
@@ -15,7 +14,7 @@ loopOf loops come low named = record { loops = loops; come = come; low = low; na
 abbrev pub noLoop : Loop
 noLoop = loopOf 0 0 0 0
 
--- The names with that of the instrument at index i of n, for which the W is; one that is not followed has the index n.
+-- The names with the instrument at index i of n, for which the W is; one that is not followed has the index n, and adds no name.
 unfoldable pub withName : ℕ → ℕ → ℕ → ℕ
 withName n i named = cond (leb n i) named (withMark named i)
 
@@ -40,7 +39,3 @@ inRow h n i l = cond (eqb (h .number) 1) (begun h n i) (cond (isNext h l) (grown
 -- As many have come as 911 says.
 unfoldable pub isWhole : Loop → Bool
 isWhole l = ltb 0 (l .loops) && eqb (l .come) (l .loops)
-
--- What stands before the entries of the W that a reading tells.
-abbrev pub headIn : Reading → Head
-headIn r = record { number = r .number; heard = r .heard; id = r .id; last = r .last; loops = r .loops }

@@ -12,7 +12,8 @@ use Rattle.board.specs.Calls.{Call, fed, aside}
 use Rattle.loops.specs.declared.Loop.{Loop}
 use Rattle.loops.specs.Loops.{noLoop, inRow, isWhole, lower}
 
--- A W that has come: what stands before its entries, and the index of its instrument.
+-- A W that has come: what stands before its entries, and the index of its instrument, which is past all others where none is followed
+-- under its 48.
 pub record Came : Type 0 where
   pub head : Head
   pub who : ℕ
@@ -47,7 +48,7 @@ abbrev pub withOne : ℕ → Came → List Came → Loop
 withOne n w ws = inRow (w .head) n (w .who) (loopAfter n ws)
 
 -- A W makes the loop whole exactly where it and those before it are 34 = 1, 2, up to 911 in a row with one 911 throughout. So a loop
--- with one missing, one but the first repeated, or a second 911 is never whole: where the first comes again it begins anew.
+-- with one missing, one repeated that is not the first, or a second 911 is never whole; where the first comes again the loop begins anew.
 pub record WholeIs (n : ℕ) (w : Came) (ws : List Came) : Type 0 where
   pub row : isWhole (withOne n w ws) ≡ true → Row (w .head .loops) (w .head .loops) (w ∷ ws)
   pub whole : Row (w .head .loops) (w .head .loops) (w ∷ ws) → isWhole (withOne n w ws) ≡ true
@@ -71,8 +72,8 @@ pub record LowestIs (k : ℕ) (ws : List Came) : Type 0 where
 abbrev pub LowestOfRow : Type 0
 LowestOfRow = (m k : ℕ) (ws : List Came) → 1 ≤ k → Row m k ws → LowestIs k ws
 
--- The W messages of calls on a board with these SecurityIDs, the newest first, in front of those before: a message that is not read is
--- not among them, nor is one of another type.
+-- The W messages of calls on a board with the SecurityIDs of b, the newest first, in front of those before: a message that is not read
+-- is not among them, nor is one of another type.
 abbrev pub cameIn : Board → List Call → List Came → List Came
 cameIn b [] ws = ws
 cameIn b (fed (snapshot h us) ∷ cs) ws = cameIn b cs (record { head = h; who = look (h .id) (b .insts) } ∷ ws)

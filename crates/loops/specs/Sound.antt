@@ -9,7 +9,7 @@ use Rattle.board.specs.Sound.{soundBoard, Sound}
 use Rattle.loops.specs.declared.Loop.{Loop}
 use Rattle.loops.specs.Channel.{Channel}
 
--- No loop runs, and all four numbers are zero.
+-- No loop runs, 911 being zero: the three other numbers are too.
 abbrev pub restsLoop : Loop → Bool
 restsLoop l = eqb (l .come) 0 && eqb (l .low) 0 && eqb (l .named) 0
 

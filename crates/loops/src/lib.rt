@@ -3,9 +3,9 @@
 use message::Reading;
 ghost use mathlib.Core.Path.{_≡_};
 ghost use Prim.Native.Nat.{_≤_, _<_};
-ghost use Rattle.message.specs.Message.{mostNumber};
+ghost use Rattle.message.specs.Message.{mostNumber, headIn};
 ghost use Rattle.heading.specs.Marks.{marked};
-ghost use Rattle.loops.specs.Loops.{loopOf, noLoop, isWhole, withName, lower, headIn, inRow};
+ghost use Rattle.loops.specs.Loops.{loopOf, noLoop, isWhole, withName, lower, inRow};
 ghost use Rattle.loops.specs.Sound.{soundLoop};
 
 // loops: 911, or 0 where no loop runs. come: how many W have come. low: the lowest 369 among them. named: one bit an instrument, 1 for
@@ -54,7 +54,7 @@ fn lower_of(a: u64, b: u64) -> u64
     b
 }
 
-// The names with that of the instrument at index i of n; one that is not followed stands at n.
+// The names with the instrument at index i of n; one that is not followed has the index n, and adds no name.
 fn with_name(named: u16, n: usize, i: usize) -> u16
     requires { ⌜ n ≤ 16 ⌝ }
     ensures { λ r. ⌜ r ≡ withName n i named ⌝ }

@@ -60,11 +60,14 @@ told (snapshot h us) =
 told (refused why) =
     record { reading = record { verdict = Refused why; number = 0; heard = 0; id = 0; last = 0; loops = 0; count = 0 }; entries = [] }
 
+-- What stands before the entries of the W that a reading tells.
+abbrev pub headIn : Reading → Head
+headIn r = record { number = r .number; heard = r .heard; id = r .id; last = r .last; loops = r .loops }
+
 -- The message that a reading and its entries say.
 abbrev pub saidBy : Verdict → Reading → List Update → Message
 saidBy Numbered r us = numbered (r .number) (r .heard) us
-saidBy Snapshot r us =
-    snapshot (record { number = r .number; heard = r .heard; id = r .id; last = r .last; loops = r .loops }) us
+saidBy Snapshot r us = snapshot (headIn r) us
 saidBy (Refused why) r us = refused why
 
 abbrev pub said : Reading → List Update → Message

@@ -5,7 +5,7 @@ use mathlib.Core.List.{List, [], _∷_, map}
 use Prim.Native.Nat.{ℕ}
 use native.Mathlib.Omega.{arith}
 use lib.ListN as list
-use Rattle.book.specs.Rules.{empty, applied, afterAction, afterNew, afterChange}
+use Rattle.book.specs.Rules.{applied, afterAction, afterNew, afterChange}
 use Rattle.message.specs.Message.{Message}
 use Rattle.board.specs.Board.{anyWaiting, waitingIn, look}
 use Rattle.board.specs.Count.{joining, hit, give, gives, count, number}
@@ -25,12 +25,12 @@ use Rattle.store.specs.Meaning.{boardAt, channelAt}
 use Rattle.sound.specs.Sound.{sound}
 use Rattle.opening.specs.Opening.{openAnswer, openStore}
 use Rattle.feed.specs.Feeding as bytes
-use Rattle.samples.specs.Says.{bid-1, bid-2, offer-3, first-says, second-says, third-says, shows, one-says, two-says}
+use Rattle.samples.specs.Says.{bid-1, bid-2, offer-3, bid-4, first-says, second-says, third-says, fourth-says, shows, one-says, two-says}
 use Rattle.samples.specs.Messages.{two-of-two}
-use Rattle.samples.proofs.Read.{says-first, says-second, says-third, says-at-1, says-at-2, says-at-4, says-one-of-two, says-two-of-two}
+use Rattle.samples.proofs.Read.{says-first, says-second, says-third, says-at-1, says-at-2, says-at-4, says-one-of-two, says-two-of-two, says-fourth}
 use Rattle.promises.specs.Acts.{lefts, callOf}
 use Rattle.promises.specs.Recovery.{readIn, Supposed}
-use Rattle.promises.specs.Hut.{stream, received, ours, HutRecovers, looped, both, OptionGoesLive}
+use Rattle.promises.specs.Hut.{stream, received, ours, HutRecovers, longer, untilWhole, both, OptionGoesLive}
 use Rattle.promises.proofs.Recovery.{Holds, back, holds, starts, right-back}
 
 -- what the stream says, and the calls
@@ -116,18 +116,31 @@ hut-recovers xs e =
 
 -- ---- the option that never has a snapshot
 
-abbrev looped-made : List Call
-looped-made = fed first-says ∷ fed third-says ∷ fed one-says ∷ fed one-says ∷ fed two-says ∷ []
+abbrev longer-says : List Message
+longer-says = first-says ∷ second-says ∷ third-says ∷ fourth-says ∷ []
 
-looped-calls : map (callOf 0) looped ≡ looped-made
-unfolding looped
-looped-calls = rw (says-first, says-third, says-one-of-two, says-two-of-two)
+longer-said : readIn 0 longer ≡ longer-says
+unfolding longer
+longer-said = rw (says-first, says-second, says-third, says-fourth)
 
-option-never : NeverBreaks said 9
+abbrev before-made : List Call
+before-made = fed first-says ∷ fed third-says ∷ fed one-says ∷ fed one-says ∷ fed fourth-says ∷ []
+
+abbrev whole-made : List Call
+whole-made = fed first-says ∷ fed third-says ∷ fed one-says ∷ fed one-says ∷ fed fourth-says ∷ fed two-says ∷ []
+
+whole-calls : map (callOf 0) untilWhole ≡ whole-made
+unfolding untilWhole
+whole-calls = rw (says-first, says-third, says-one-of-two, says-fourth, says-two-of-two)
+
+option-numbers : NumberedFromOne longer-says
+option-numbers = numbered-from-one longer-says refl
+
+option-never : NeverBreaks longer-says 9
 unfolding bookAt mine run applied afterAction afterNew afterChange
-option-never = never-breaks said 9 empty refl
+option-never = never-breaks longer-says 9 (record { bids = bid-4 ∷ []; offers = [] }) refl
 
-option-right : Throughout (RightBy said 9) looped-made (openedChannel 0 both)
+option-right : Throughout (RightBy longer-says 9) whole-made (openedChannel 0 both)
 unfolding bookAt mine run applied afterAction afterNew afterChange anyWaiting look joining hit give gives count number entriesOf after take snap feed given inRow isWhole withName lower atEnd ends ended marked withMark
 option-right = (
   ((λ _. (0, omega arith, refl)), tt),
@@ -137,7 +150,10 @@ option-right = (
       ((λ _ e. absurd (omega arith)), λ t. absurd (false≢true (t .whole))),
       (
         ((λ e. absurd (omega arith)), λ t. absurd (false≢true (t .whole))),
-        (((λ e. absurd (omega arith)), λ _. refl), tt),
+        (
+          ((λ _. (3, omega arith, refl)), tt),
+          (((λ e. absurd (omega arith)), λ _. refl), tt),
+        ),
       ),
     ),
   ),
@@ -145,16 +161,16 @@ option-right = (
 
 -- before the W that ends the loop, and behind it
 abbrev before-end : Channel
-before-end = calls (fed first-says ∷ fed third-says ∷ fed one-says ∷ fed one-says ∷ []) (openedChannel 0 both)
+before-end = calls before-made (openedChannel 0 both)
 
 abbrev behind-end : Channel
-behind-end = calls looped-made (openedChannel 0 both)
+behind-end = calls whole-made (openedChannel 0 both)
 
 option-waits : inst 9 (before-end .board) .waiting ≡ true
 unfolding applied afterAction afterNew afterChange anyWaiting look joining hit give gives count number entriesOf run after take snap feed given inRow isWhole withName lower atEnd ends ended marked withMark
 option-waits = refl
 
-option-live : (Live 9 (behind-end .board)) × (behind-end .board .H ≡ 3) × (inst 9 (behind-end .board) .book ≡ empty)
+option-live : (Live 9 (behind-end .board)) × (behind-end .board .H ≡ 4) × (inst 9 (behind-end .board) .book ≡ record { bids = bid-4 ∷ []; offers = [] })
 unfolding applied afterAction afterNew afterChange anyWaiting look joining hit give gives count number entriesOf run after take snap feed given inRow isWhole withName lower atEnd ends ended marked withMark
 option-live = (refl, refl, refl)
 
@@ -178,25 +194,25 @@ answered xs s q =
     let o : bytes.fed two-of-two (channelAt xs) ≡ given two-says before-end = ap (bytes.fed two-of-two) q ∙ two-fed in
     rw (s, o, option-answer .0, option-answer .1)
 
-before-calls : map (callOf 0) (list.take 4 looped) ≡ fed first-says ∷ fed third-says ∷ fed one-says ∷ fed one-says ∷ []
-unfolding looped
-before-calls = rw (says-first, says-third, says-one-of-two)
+before-calls : map (callOf 0) (list.take 5 untilWhole) ≡ before-made
+unfolding untilWhole
+before-calls = rw (says-first, says-third, says-one-of-two, says-fourth)
 
 pub option-goes-live : OptionGoesLive
 option-goes-live xs e =
     let s = openStore 0 both xs in
     let c = openedChannel 0 both in
     let h = starts 0 both xs e in
-    let k = holds 0 (list.take 4 looped) s c h in
-    let p : channelAt (lefts (list.take 4 looped) s) ≡ before-end = k .same ∙ ap (λ (cs : List Call). calls cs c) before-calls in
-    let q : channelAt (lefts looped s) ≡ behind-end = holds 0 looped s c h .same ∙ ap (λ (cs : List Call). calls cs c) looped-calls in
+    let k = holds 0 (list.take 5 untilWhole) s c h in
+    let p : channelAt (lefts (list.take 5 untilWhole) s) ≡ before-end = k .same ∙ ap (λ (cs : List Call). calls cs c) before-calls in
+    let q : channelAt (lefts untilWhole s) ≡ behind-end = holds 0 untilWhole s c h .same ∙ ap (λ (cs : List Call). calls cs c) whole-calls in
     record {
-      numbers = rw stream-said numbers;
-      never = rw stream-said option-never;
-      right = back 0 (Supposed 0 stream 9) (RightBy (readIn 0 stream) 9) (right-back 0 stream 9) looped s c h (rw (stream-said, looped-calls) option-right);
+      numbers = rw longer-said option-numbers;
+      never = rw longer-said option-never;
+      right = back 0 (Supposed 0 longer 9) (RightBy (readIn 0 longer) 9) (right-back 0 longer 9) untilWhole s c h (rw (longer-said, whole-calls) option-right);
       waits = ap (λ (d : Channel). inst 9 (d .board) .waiting) p ∙ option-waits;
       live = ap (λ (d : Channel). inst 9 (d .board) .waiting) q ∙ option-live .0;
       last = ap (λ (d : Channel). d .board .H) q ∙ option-live .1;
       book = ap (λ (d : Channel). inst 9 (d .board) .book) q ∙ option-live .2;
-      answer = answered (lefts (list.take 4 looped) s) (k .sound) p;
+      answer = answered (lefts (list.take 5 untilWhole) s) (k .sound) p;
     }

@@ -2,11 +2,11 @@
 use mathlib.Core.Path.{_≡_, refl, sym, ap, _∙_}
 use mathlib.Core.Bool.{Bool, true, false, cond, true≢false}
 use mathlib.Core.List.{List, map}
-use Prim.Native.Nat.{ℕ}
+use Prim.Native.Nat.{ℕ, _+_, _*_}
 use lib.ListN.{length, length-map}
 use Rattle.book.specs.declared.Update.{Update}
 use Rattle.message.specs.Message.{Message, Head, snapshot}
-use Rattle.board.specs.Board.{Board, fresh, opened, look}
+use Rattle.board.specs.Board.{Board, waitingIn, fresh, opened, look}
 use Rattle.board.specs.Feed.{feed}
 use Rattle.board.specs.Calls.{inst}
 use Rattle.board.specs.Laws.{Same}
@@ -15,21 +15,21 @@ use Rattle.board.proofs.Taken.{snapshot-keeps-date}
 use Rattle.loops.specs.declared.Loop.{Loop}
 use Rattle.loops.specs.Loops.{noLoop, inRow, isWhole}
 use Rattle.loops.specs.Ending.{ended}
-use Rattle.loops.specs.Channel.{Channel, channel, joinedBy, rounded, given}
+use Rattle.loops.specs.Channel.{Channel, channel, Reply, rounded, given}
 use Rattle.loops.specs.Calls.{calls, openedChannel}
 use Rattle.loops.proofs.Cases.{loop-cases}
 use Rattle.loops.proofs.Ending.{outside-stays, end-is-snapshots}
-use Rattle.loops.proofs.Keeping.{calls-same}
+use Rattle.loops.proofs.Keeping.{end-keeps, calls-same}
 use Rattle.loops.proofs.Laws.{named-stays, live-stays}
 use Rattle.loops.proofs.Rows.{joined-same, loop-of-came, whole-is-row, lowest-of-row}
 use Rattle.fields.specs.Messages.{messageIn}
 use Rattle.store.specs.Meaning.{boardAt, loopAt, channelAt}
 use Rattle.sound.specs.Sound.{sound}
 use Rattle.opening.specs.Opening.{openStore}
-use Rattle.feed.specs.Feeding.{fed, feedStore}
+use Rattle.feed.specs.Feeding.{fed, feedAnswer, feedStore}
 use Rattle.feed.proofs.Laws.{feed-is-channel}
 use Rattle.promises.specs.Acts.{lefts, callOf}
-use Rattle.promises.specs.Loops.{LoopOfActs, JoinedOfActs, EndSpares, LoopPromises}
+use Rattle.promises.specs.Loops.{LoopOfActs, joinedAt, JoinedOfActs, leftBy, Worked, SnapshotWorks, LoopPromises}
 use Rattle.promises.proofs.Recovery.{ends, starts}
 
 loop-of-acts : LoopOfActs
@@ -47,37 +47,52 @@ joined-of-acts depth ids xs e cs h =
     ∙ ap (λ (n : ℕ). inRow h n (look (h .id) (opened depth ids .insts)) (loopAt s)) (length-map ids fresh)
     ∙ ap (inRow h (length ids) (look (h .id) (opened depth ids .insts))) (loop-of-acts depth ids xs e cs)
 
--- an instrument that the end of the loop spares is as the W left it
-module _ (d : ℕ) (bytes xs : List ℕ) (h : Head) (us : List Update) (s : sound xs ≡ true) (m : messageIn (boardAt xs .depth) bytes ≡ snapshot h us) where
+-- a W on a sound store
+module _ (bytes xs : List ℕ) (h : Head) (us : List Update) (s : sound xs ≡ true) (m : messageIn (boardAt xs .depth) bytes ≡ snapshot h us) where
   abbrev l : Loop
-  l = joinedBy h (boardAt xs) (loopAt xs)
+  l = joinedAt h xs
 
   abbrev b : Board
-  b = feed (snapshot h us) (boardAt xs) .board
+  b = leftBy h us xs
+
+  is-given : fed bytes (channelAt xs) ≡ given (snapshot h us) (channelAt xs)
+  unfolding fed
+  is-given = ap (λ (k : Message). given k (channelAt xs)) m
 
   behind : boardAt (feedStore bytes xs) ≡ rounded l b .board
-  unfolding fed given
-  behind =
-      ap (λ (c : Channel). c .board) (feed-is-channel bytes xs s) ∙ ap (λ (k : Message). given k (channelAt xs) .channel .board) m
+  unfolding given
+  behind = ap (λ (c : Channel). c .board) (feed-is-channel bytes xs s) ∙ ap (λ (o : Reply). o .channel .board) is-given
 
-  spared : (isWhole l ≡ true → inst d (ended l b) ≡ inst d b) → inst d (boardAt (feedStore bytes xs)) ≡ inst d b
-  spared f = ap (inst d) behind ∙ go (isWhole l) f
-    where
-      go : (t : Bool) → (t ≡ true → inst d (ended l b) ≡ inst d b) → inst d (cond t (channel (ended l b) noLoop) (channel b l) .board) ≡ inst d b
-      go true f = f refl
-      go false f = refl
+  -- where the loop's end changes nothing that P speaks of
+  module _ {A : Type 0} (P : Board → A) where
+    spared : (isWhole l ≡ true → P (ended l b) ≡ P b) → P (boardAt (feedStore bytes xs)) ≡ P b
+    spared f = ap P behind ∙ go (isWhole l) f
+      where
+        go : (t : Bool) → (t ≡ true → P (ended l b) ≡ P b) → P (cond t (channel (ended l b) noLoop) (channel b l) .board) ≡ P b
+        go true f = f refl
+        go false f = refl
 
-end-spares : EndSpares
-end-spares d bytes xs h us s m =
-    let k = joinedBy h (boardAt xs) (loopAt xs) in
-    let c = feed (snapshot h us) (boardAt xs) .board in
-    let p = spared d bytes xs h us s m in
-    record {
-      not-whole = λ e. p (λ w. absurd (true≢false (sym w ∙ e)));
-      named = λ e. p (λ _. named-stays d k c (rw (same-look d c (boardAt xs) (same-feed (snapshot h us) (boardAt xs))) e));
-      live = λ e. p (λ _. live-stays d k c e);
-      outside = λ e. p (λ _. ap (inst d) (outside-stays k c (rw (snapshot-keeps-date h us (boardAt xs) .0) e)));
-    }
+  -- the answer that it earned, and those that wait behind all
+  counted : feedAnswer bytes xs ≡ feed (snapshot h us) (boardAt xs) .answer + 256 * waitingIn (rounded l b .board .insts)
+  unfolding feedAnswer given
+  counted = rw s (ap (λ (o : Reply). o .answer + 256 * waitingIn (o .channel .board .insts)) is-given)
+
+  worked : Worked bytes xs h us
+  worked =
+      let d = snapshot-keeps-date h us (boardAt xs) in
+      record {
+        answer = rw behind counted;
+        whole = λ e. behind ∙ ap (λ (t : Bool). cond t (channel (ended l b) noLoop) (channel b l) .board) e;
+        last = spared (λ (c : Board). c .H) (λ _. end-keeps l b .last) ∙ d .0;
+        heard = spared (λ (c : Board). c .heard) (λ _. end-keeps l b .heard) ∙ d .1;
+        not-whole = λ e. spared (λ (c : Board). c) (λ w. absurd (true≢false (sym w ∙ e)));
+        outside = λ e. spared (λ (c : Board). c) (λ _. outside-stays l b (rw (d .0) e));
+        named = λ i e. spared (inst i) (λ _. named-stays i l b (rw (same-look i b (boardAt xs) (same-feed (snapshot h us) (boardAt xs))) e));
+        live = λ i e. spared (inst i) (λ _. live-stays i l b e);
+      }
+
+snapshot-works : SnapshotWorks
+snapshot-works bytes xs h us s m = worked bytes xs h us s m
 
 pub loop-promises : LoopPromises
 loop-promises =
@@ -86,7 +101,7 @@ loop-promises =
       joined = joined-of-acts;
       whole = whole-is-row;
       lowest = lowest-of-row;
+      works = snapshot-works;
       ends = end-is-snapshots;
-      spares = end-spares;
       cases = loop-cases;
     }

@@ -22,7 +22,7 @@ use Rattle.fields.proofs.Unbroken.{isRead, typed-well}
 use Rattle.stretch.specs.Stretches.{passes}
 use Rattle.salvage.specs.Pieces.{Piece, message, passed, pieces, Messages}
 use Rattle.salvage.proofs.Laws.{walk-is-whole, whole-taken}
-use Rattle.loops.proofs.Laws.{given-answer}
+use Rattle.loops.proofs.Laws.{answer-is-own}
 use Rattle.store.specs.Meaning.{boardAt, channelAt}
 use Rattle.sound.specs.Sound.{sound}
 use Rattle.feed.specs.Feeding.{fed, feedAnswer}
@@ -61,7 +61,7 @@ unfolding feedAnswer fed messageIn
 passing bytes xs h =
     let b = boardAt xs in
     let o = fed bytes (channelAt xs) in
-    rw (h, add-mul-mod-self-left (o .answer) 256 (waitingIn (o .channel .board .insts)), given-answer (framedAs (b .depth) bytes (frameOf bytes)) (channelAt xs))
+    rw (h, add-mul-mod-self-left (o .answer) 256 (waitingIn (o .channel .board .insts)), answer-is-own (framedAs (b .depth) bytes (frameOf bytes)) (channelAt xs))
     (framed-alike (b .depth) bytes (frameOf bytes) b)
 
 -- ---- the messages of a walk

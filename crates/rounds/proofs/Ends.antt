@@ -25,9 +25,9 @@ use Rattle.store.specs.Layout.{idOf}
 use Rattle.store.specs.Meaning.{instAt, State, boardIn}
 use Rattle.store.specs.Canon.{Canon}
 use Rattle.store.proofs.Decode.{insts-length, at-board}
-use Rattle.channel.specs.Feeds.{Feeds}
-use Rattle.channel.proofs.Laws.{feeds-beyond}
-use Rattle.rounds.specs.Rounds.{Beyond, Ends}
+use Rattle.channel.specs.Feeds.{Aims, Around, Feeds}
+use Rattle.channel.proofs.Laws.{around-none, around-then, feeds-around, none-aimed}
+use Rattle.rounds.specs.Rounds.{Ends}
 
 -- ---- those that are left
 
@@ -61,12 +61,12 @@ module _ (l : Loop) (xs : List Inst) where
 -- i of the instruments of s are through, and t is left
 pub record So (l : Loop) (s : State) (i : ℕ) (t : State) : Type 0 where
   pub canon : Canon t
-  pub beyond : Beyond s t
+  pub around : Around s t
   pub same : Same (boardIn t) (boardIn s)
   pub rest : calls (left l (boardIn s .insts) i) (boardIn t) ≡ calls (unnamed l 0 (boardIn s .insts)) (boardIn s)
 
 pub start : (l : Loop) (s : State) → Canon s → So l s 0 s
-start l s k = record { canon = k; beyond = refl; same = same (boardIn s); rest = refl }
+start l s k = record { canon = k; around = around-none s; same = same (boardIn s); rest = refl }
 
 module _ (l : Loop) (s : State) (i : ℕ) (t : State) (o : So l s i t) where
   n : length (boardIn s .insts) ≡ s .head .followed
@@ -87,7 +87,7 @@ module _ (l : Loop) (s : State) (i : ℕ) (t : State) (o : So l s i t) where
   named-turn h e =
       let q : left l (boardIn s .insts) (i + 1) ≡ left l (boardIn s .insts) i =
       rw (add-one i) (sym (left-named l (boardIn s .insts) i (omega (arith, n)) e)) in
-      record { canon = o .canon; beyond = o .beyond; same = o .same; rest = ap (λ (cs : List Call). calls cs (boardIn t)) q ∙ o .rest }
+      record { canon = o .canon; around = o .around; same = o .same; rest = ap (λ (cs : List Call). calls cs (boardIn t)) q ∙ o .rest }
 
   fed-turn : (a : ℕ) (u : State) → i < s .head .followed → marked (l .named) i ≡ false
       → Feeds (emptyFor (getD (t .store) (idOf i) 0) (l .low)) t a u → So l s (i + 1) u
@@ -98,7 +98,7 @@ module _ (l : Loop) (s : State) (i : ℕ) (t : State) (o : So l s i t) where
       let q = left-unnamed l (boardIn s .insts) i (omega (arith, n)) e in
       record {
         canon = g .canon;
-        beyond = feeds-beyond (o .canon .formed) g ∙ o .beyond;
+        around = around-then (o .around) (feeds-around (o .canon .formed) g);
         same = rw b (same-then _ (boardIn t) (boardIn s) (same-feed (emptyFor d (l .low)) (boardIn t)) (o .same));
         rest = rw (add-one i, b) (ap (λ (cs : List Call). calls cs (boardIn t)) (sym q) ∙ o .rest);
       }
@@ -110,7 +110,7 @@ module _ (l : Loop) (s : State) (i : ℕ) (t : State) (o : So l s i t) where
       record {
         means = sym (ap (λ (cs : List Call). calls cs (boardIn t)) q) ∙ o .rest ∙ sym (end-is-snapshots l (boardIn s) k);
         canon = o .canon;
-        beyond = o .beyond;
+        around = o .around;
       }
 
 -- one that was not named, by the reading that the code makes, which says an empty snapshot
@@ -126,3 +126,8 @@ pub read-turn : (l : Loop) (s : State) (i : ℕ) (t : State) → So l s i t → 
     → marked (l .named) i ≡ false → r ≡ told (emptyFor (getD (t .store) (idOf i) 0) (l .low)) .reading
     → Feeds (said r (updatesIn run (r .count))) t a u → So l s (i + 1) u
 read-turn l s i t o r run a u h e q f = fed-turn l s i t o a u h e (rw (said-empty r run (getD (t .store) (idOf i) 0) (l .low) q) at f)
+
+-- and of the run it aims no entry
+pub run-stays : (r : Reading) (d S : ℕ) (s : State) (xs ys : List ℕ) → r ≡ told (emptyFor d S) .reading → Aims s (r .count) xs ys → ys ≡ xs
+unfolding told
+run-stays r d S s xs ys e a = none-aimed s xs ys (rw e at a)

@@ -53,7 +53,7 @@ module _ (xs : List ℕ) (m : Message) (a : ℕ) (row : Loop) (t : State) (e : s
   rest-after =
       let w : Agree 0 7168 (t .store) ys =
       agree-then (agree-wider 0 7168 (omega arith) (omega arith) (saved-agree t)) (agree-wider 0 7168 (omega arith) (omega arith) (loop-agree row (saved t))) in
-      beyond (t .store) ys w ∙ g .beyond
+      beyond 0 (t .store) ys w ∙ g .around .beyond
 
   store-after : ys ≡ written after ++ drop storeSize xs
   store-after =

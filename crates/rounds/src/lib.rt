@@ -8,13 +8,13 @@ ghost use mathlib.Core.Bool.{true};
 ghost use Prim.Native.Nat.{_*_, _≤_};
 ghost use lib.ListN.{length};
 ghost use Rattle.cells.specs.Runs.{updateSize, updatesIn};
-ghost use Rattle.message.specs.Message.{mostNumber, told, said};
+ghost use Rattle.message.specs.Message.{mostNumber, headIn, told, said};
 ghost use Rattle.board.specs.Ranges.{messageFine};
 ghost use Rattle.board.specs.Sound.{Sound};
-ghost use Rattle.loops.specs.Loops.{headIn};
 ghost use Rattle.loops.specs.Laws.{emptyFor};
 ghost use Rattle.store.specs.Meaning.{st, boardIn};
 ghost use Rattle.store.specs.Canon.{Canon};
+ghost use Rattle.channel.specs.Feeds.{Aims};
 ghost use Rattle.rounds.specs.Rounds.{Ends, Rounds, Gives};
 
 // The heading that goes with the store, and the record of the loop behind a W.
@@ -45,10 +45,12 @@ fn empty_for(id: u64, last: u64) -> Reading
     }
 }
 
-// The loop is whole: each instrument that it did not name takes an empty snapshot with the lowest 369, if it waits and that serves.
+// The loop is whole: each instrument that it did not name takes an empty snapshot with the lowest 369, if it waits and that lies in B
+// to H. The run stays: such a snapshot has no entries.
 fn end(store: &mut [u64], h: Heading, l: Loop, run: &mut [u64]) -> Heading
     requires { ⌜ Canon (st h (now store)) × Sound (boardIn (st h (now store))) ⌝ }
     ensures { λ g. ⌜ Ends l (st h (now (store .entry))) (st g (now (store .exit))) ⌝ }
+    ensures { λ _. ⌜ now (run .exit) ≡ now (run .entry) ⌝ }
 {
     let n = h.followed;
     let mut g = h;
@@ -71,6 +73,7 @@ fn end(store: &mut [u64], h: Heading, l: Loop, run: &mut [u64]) -> Heading
 fn looped(store: &mut [u64], h: Heading, l: Loop, r: Reading, run: &mut [u64]) -> Round
     requires { ⌜ Canon (st h (now store)) × Sound (boardIn (st h (now store))) × (l .come ≤ mostNumber) ⌝ }
     ensures { λ o. ⌜ Rounds (headIn r) l (st h (now (store .entry))) (o .row) (st (o .head) (now (store .exit))) ⌝ }
+    ensures { λ _. ⌜ now (run .exit) ≡ now (run .entry) ⌝ }
 {
     let i = store::find(store, h, r.id);
     let m = l.join(r, h.followed, i);
@@ -88,6 +91,7 @@ fn looped(store: &mut [u64], h: Heading, l: Loop, r: Reading, run: &mut [u64]) -
 pub fn give(store: &mut [u64], h: Heading, l: Loop, r: Reading, run: &mut [u64]) -> Given
     requires { ⌜ Canon (st h (now store)) × Sound (boardIn (st h (now store))) × (l .come ≤ mostNumber) × (r .count * updateSize ≤ length (now run)) × (messageFine (h .depth) (said r (updatesIn (now run) (r .count))) ≡ true) ⌝ }
     ensures { λ o. ⌜ Gives (said r (updatesIn (now (run .entry)) (r .count))) l (st h (now (store .entry))) (o .answer) (o .row) (st (o .head) (now (store .exit))) ⌝ }
+    ensures { λ _. ⌜ Aims (st h (now (store .entry))) (r .count) (now (run .entry)) (now (run .exit)) ⌝ }
 {
     let f = channel::feed_read(store, h, r, run);
     let g = f.head;
@@ -101,10 +105,10 @@ pub fn give(store: &mut [u64], h: Heading, l: Loop, r: Reading, run: &mut [u64])
         },
         Verdict::Snapshot => {
             let o = looped(store, g, l, r, run);
-            let end = o.head;
+            let last = o.head;
             let row = o.row;
             Given {
-                head: end,
+                head: last,
                 row,
                 answer,
             }

@@ -19,8 +19,8 @@ use Rattle.message.specs.declared.Refusal.the-variants.{BadFields}
 use Rattle.group.specs.Groups.{groupOf, each, running}
 use Rattle.lead.specs.Messages.{changesOf, headOf, snapshotOf, orBadFields, typedAs}
 use Rattle.fields.specs.Messages.{messageIn}
-use Rattle.samples.specs.Messages.{empty-book, point-alone, eight-decimals, first, second, third, at-1, at-2, at-4, one-of-two, two-of-two}
-use Rattle.samples.specs.Says.{bid-1, bid-2, first-says, second-says, third-says, shows, one-says, two-says}
+use Rattle.samples.specs.Messages.{empty-book, point-alone, eight-decimals, first, second, third, at-1, at-2, at-4, one-of-two, two-of-two, fourth}
+use Rattle.samples.specs.Says.{bid-1, bid-2, first-says, second-says, third-says, shows, one-says, two-says, fourth-says}
 
 -- the message has 110 bytes and says an empty book
 pub sized : length empty-book ≡ 110
@@ -72,3 +72,7 @@ says-one-of-two = refl
 pub says-two-of-two : messageIn 0 two-of-two ≡ two-says
 unfolding messageIn typedAs orBadFields changesOf snapshotOf headOf groupOf each running frameOf bodyOf fieldsOf cut fieldOf rangedOf wholeOf digitsOf bytesOf fieldBytes decimal widthOf widthTo fixed tidy upTo past parts allTidy lookup has stands momentOf dateOf timeOf clockOf minutesOf twoOf isDate dayOf leap months daysIn daysTo yearDays daysBefore instrumentOf bvmf entryInX bookEntry entryInW shownEntry valuesOf sortOf priceOf amountOf fractionOf byOf idOf isId momentIn
 says-two-of-two = refl
+
+pub says-fourth : messageIn 0 fourth ≡ fourth-says
+unfolding messageIn typedAs orBadFields changesOf snapshotOf headOf groupOf each running frameOf bodyOf fieldsOf cut fieldOf rangedOf wholeOf digitsOf bytesOf fieldBytes decimal widthOf widthTo fixed tidy upTo past parts allTidy lookup has stands momentOf dateOf timeOf clockOf minutesOf twoOf isDate dayOf leap months daysIn daysTo yearDays daysBefore instrumentOf bvmf entryInX bookEntry entryInW shownEntry valuesOf sortOf priceOf amountOf fractionOf byOf idOf isId momentIn
+says-fourth = refl

@@ -35,3 +35,10 @@ one-says = snapshot (record { number = 1; heard = 64968180540000; id = 7; last =
 
 abbrev pub two-says : Message
 two-says = snapshot (record { number = 2; heard = 64968180540000; id = 11; last = 3; loops = 2 }) []
+
+-- Message 4 makes a bid of 9 (0.95 for 6).
+abbrev pub bid-4 : Entry
+bid-4 = record { price = pos 9500000; size = 6; by = 3307; more = 0; moment = 64968180543000 }
+
+abbrev pub fourth-says : Message
+fourth-says = numbered 4 64968180543000 (record { who = 9; what = 0; action = 0; place = 1; entry = bid-4 } ∷ [])

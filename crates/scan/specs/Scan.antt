@@ -10,7 +10,7 @@ use Rattle.board.specs.Ranges.{within, mostNumber, idFine, momentFine}
 use Rattle.board.specs.Sound.{distinct}
 use Rattle.sides.specs.Side.{each, allZero, entryScan, sideScan, roomOf}
 use Rattle.loops.specs.Sound.{soundLoop}
-use Rattle.store.specs.Layout.{storeSize, layoutNumber, atLayout, atDepth, atFollowed, atNumber, atBase, atHeard, atMarks, atQueued, idOf, bidsOf, slotOf}
+use Rattle.store.specs.Layout.{storeSize, layoutNumber, atLayout, atDepth, atFollowed, atNumber, atBase, atHeard, atMarks, atQueued, headingUsed, headingSpare, idOf, bidsOf, slotOf}
 use Rattle.store.specs.Meaning.{loopAt}
 
 -- ---- the heading
@@ -44,7 +44,7 @@ spread xs at step n = tab (λ (i : ℕ). getD xs (at + i * step) 0) n
 -- What is spare behind the heading and the loop's record, n records, what is unused behind them, and no SecurityID twice.
 unfoldable pub recordsScan : List ℕ → ℕ → Bool
 recordsScan xs n =
-    allZero xs 12 20
+    allZero xs headingUsed headingSpare
     && (each (λ (i : ℕ). recordScan xs (idOf i)) n && (allZero xs (32 + n * 8) (128 - n * 8) && distinct (spread xs 32 8 n)))
 
 -- ---- places

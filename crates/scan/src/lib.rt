@@ -292,7 +292,7 @@ fn queue(store: &[u64], most: u64, full: u64) -> bool
 }
 
 // The record of the loop of snapshots.
-fn looped(store: &[u64]) -> bool
+fn loop_record(store: &[u64]) -> bool
     requires { ⌜ (storeSize ≤ length (now store)) × (getD (now store) atFollowed 0 ≤ 16) ⌝ }
     ensures { λ r. ⌜ r ≡ soundLoop (getD (now (store .entry)) atFollowed 0) (loopAt (now (store .entry))) ⌝ }
 {
@@ -310,7 +310,7 @@ fn rest(store: &[u64]) -> bool
     requires { ⌜ (storeSize ≤ length (now store)) × (getD (now store) atFollowed 0 ≤ 16) × (getD (now store) atQueued 0 ≤ 256) × (getD (now store) atBase 0 ≤ 4294967295) ⌝ }
     ensures { λ r. ⌜ r ≡ restScan (now (store .entry)) ⌝ }
 {
-    if !looped(store) {
+    if !loop_record(store) {
         return false;
     }
     let depth = store[store::DEPTH];

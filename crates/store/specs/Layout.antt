@@ -59,6 +59,10 @@ headingUsed = 12
 abbrev pub headingSpare : ℕ
 headingSpare = 20
 
+-- All of them, in front of the records.
+abbrev pub headingSize : ℕ
+headingSize = headingUsed + headingSpare
+
 -- 16 instrument records of 8 from 32 on: SecurityID, reason, and 6 spare numbers.
 abbrev pub idOf : ℕ → ℕ
 idOf i = 32 + i * 8

@@ -4,13 +4,13 @@ use Prim.Native.Nat.{_-_, _≤_}
 use native.Mathlib.Omega.{arith}
 use lib.ListN.{length}
 use Rattle.store.specs.Meaning.{st}
-use Rattle.rounds.proofs.Ends.{So, start, named-turn, none-asked, read-turn, all-through}
+use Rattle.rounds.proofs.Ends.{So, start, named-turn, none-asked, read-turn, run-stays, all-through}
 use borrow.Author.Needs.{needs}
 use Rattle.rounds.proofs.end.Statement.{statement}
 use Rattle.rounds.proofs.end.Tie as tie
 
 abbrev Inv-loop : tie.InvT-loop
-Inv-loop store₀ l run₀ n g₀ i₀ store run g i = (i ≤ n) × (n ≡ g₀ .followed) × So l (st g₀ store₀) i (st g store) × (length store ≡ length store₀) × (length run ≡ length run₀)
+Inv-loop store₀ l run₀ n g₀ i₀ store run g i = (i ≤ n) × (n ≡ g₀ .followed) × So l (st g₀ store₀) i (st g store) × (length store ≡ length store₀) × (run ≡ run₀)
 
 abbrev μ-loop : tie.MeasureT-loop
 μ-loop store₀ l run₀ n g₀ i₀ store run g i = n - i
@@ -58,8 +58,10 @@ loop-again-2 : tie.Need-loop-again-2 Inv-loop μ-loop
 loop-again-2 c =
     let l = c .before .before .before .before .before .before .before .before .before .before .before .before .before .loop in
     let h = c .before .before .before .before .before .before .before .before .before .before .before .before .loop-test .taken in
-    let o = read-turn _ _ _ _ (l .inv .2) _ (l .run) _ _ (omega (arith, h, l .inv .1)) (sym (c .before .before .before .before .before .before .before .before .before .before .before .named-at .ensures) ∙ c .before .before .before .before .before .before .before .before .before .before .if1 .left) (c .before .before .before .before .before .before .before .before .empty-for .ensures) (c .before .before .before .before .before .feed-read .ensures .0) in
-    (omega (arith, h), l .inv .1, o, c .before .before .before .before .before .feed-read .kept .0 ∙ l .inv .3, c .before .before .before .before .before .feed-read .kept .1 .1 .1 .0 ∙ l .inv .4)
+    let empty = c .before .before .before .before .before .before .before .before .empty-for .ensures in
+    let fed = c .before .before .before .before .before .feed-read in
+    let o = read-turn _ _ _ _ (l .inv .2) _ (l .run) _ _ (omega (arith, h, l .inv .1)) (sym (c .before .before .before .before .before .before .before .before .before .before .before .named-at .ensures) ∙ c .before .before .before .before .before .before .before .before .before .before .if1 .left) empty (fed .ensures .0) in
+    (omega (arith, h), l .inv .1, o, fed .kept .0 ∙ l .inv .3, run-stays _ _ _ _ _ _ empty (fed .ensures .1) ∙ l .inv .4)
 
 same-length : tie.Need-same-length Inv-loop μ-loop
 same-length c = search needs
@@ -70,7 +72,7 @@ same-length-2 c = search needs
 returns : tie.Need-returns Inv-loop μ-loop
 returns c =
     let l = c .before .loop in
-    all-through _ _ _ _ (l .inv .2) (c .before .before .before .before .pre .1) (omega (arith, c .loop-test .left, l .inv .1)) (omega (arith, l .inv .0, l .inv .1))
+    (all-through _ _ _ _ (l .inv .2) (c .before .before .before .before .pre .1) (omega (arith, c .loop-test .left, l .inv .1)) (omega (arith, l .inv .0, l .inv .1)), l .inv .4)
 
 pub end-spec : {M : Type 1} → statement M
 end-spec =

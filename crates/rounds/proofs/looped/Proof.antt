@@ -1,5 +1,5 @@
 -- `looped` meets its contract: the record goes on, or the loop is whole and ends.
-use mathlib.Core.Path.{sym, _∙_}
+use mathlib.Core.Path.{refl, sym, _∙_}
 use borrow.Author.Tests.{not-true, not-false}
 use Rattle.rounds.proofs.Gives.{goes-on, comes-round}
 use borrow.Author.Needs.{needs}
@@ -20,7 +20,7 @@ same-length c = search needs
 
 returns : tie.Need-returns
 returns c =
-    goes-on (c .before .before .before .before .before .before .before .args .r) _ _ _ _ (c .before .before .before .find .ensures .0) (c .before .before .join .ensures) (sym (c .before .is-whole .ensures) ∙ not-true _ (c .if1 .taken)) (c .before .before .before .before .before .before .before .pre .0)
+    (goes-on (c .before .before .before .before .before .before .before .args .r) _ _ _ _ (c .before .before .before .find .ensures .0) (c .before .before .join .ensures) (sym (c .before .is-whole .ensures) ∙ not-true _ (c .if1 .taken)) (c .before .before .before .before .before .before .before .pre .0), refl)
 
 end-requires : tie.Need-end-requires
 end-requires c κs = search needs
@@ -35,9 +35,11 @@ same-length-3 : tie.Need-same-length-3
 same-length-3 c = search needs
 
 returns-2 : tie.Need-returns-2
-returns-2 c =
-    comes-round (c .before .before .before .before .before .before .before .before .before .before .before .before .before .before .before .args .r) _ _ _ _ (c .before .before .before .before .before .before .before .before .before .before .before .find .ensures .0) (c .before .before .before .before .before .before .before .before .before .before .join .ensures) _ (c .none .ensures) _
-    (sym (c .before .before .before .before .before .before .before .before .before .is-whole .ensures) ∙ not-false _ (c .before .before .before .before .before .before .before .before .if1 .left)) (c .before .before .before .before .before .end .ensures)
+returns-2 c = (
+  comes-round (c .before .before .before .before .before .before .before .before .before .before .before .before .before .before .before .args .r) _ _ _ _ (c .before .before .before .before .before .before .before .before .before .before .before .find .ensures .0) (c .before .before .before .before .before .before .before .before .before .before .join .ensures) _ (c .none .ensures) _
+      (sym (c .before .before .before .before .before .before .before .before .before .is-whole .ensures) ∙ not-false _ (c .before .before .before .before .before .before .before .before .if1 .left)) (c .before .before .before .before .before .end .ensures .0),
+  c .before .before .before .before .before .end .ensures .1,
+)
 
 pub looped-spec : {M : Type 1} → statement M
 looped-spec =

@@ -6,12 +6,12 @@ use borrow.Author.Needs.{needs}
 use Rattle.scan.proofs.rest.Statement.{statement}
 use Rattle.scan.proofs.rest.Tie as tie
 
-looped-requires : tie.Need-looped-requires
-looped-requires c κs = search needs
+loop-record-requires : tie.Need-loop-record-requires
+loop-record-requires c κs = search needs
 
 returns : tie.Need-returns
 unfolding restScan
-returns c = rw (← c .before .looped .ensures, not-true (c .before .looped .result) (c .if1 .taken))
+returns c = rw (← c .before .loop-record .ensures, not-true (c .before .loop-record .result) (c .if1 .taken))
 
 shared-slice-read-depth : tie.Need-shared-slice-read-depth
 shared-slice-read-depth c = search needs
@@ -27,7 +27,7 @@ books-requires c κs = search needs
 
 returns-2 : tie.Need-returns-2
 unfolding restScan
-returns-2 c = rw (← c .before .before .before .before .before .before .looped .ensures, not-false (c .before .before .before .before .before .before .looped .result) (c .before .before .before .before .before .if1 .left), ← c .before .before .before .most-of .ensures .0, ← c .before .before .full-of .ensures, ← c .before .books .ensures, not-true (c .before .books .result) (c .if2 .taken))
+returns-2 c = rw (← c .before .before .before .before .before .before .loop-record .ensures, not-false (c .before .before .before .before .before .before .loop-record .result) (c .before .before .before .before .before .if1 .left), ← c .before .before .before .most-of .ensures .0, ← c .before .before .full-of .ensures, ← c .before .books .ensures, not-true (c .before .books .result) (c .if2 .taken))
 
 queue-requires : tie.Need-queue-requires
 queue-requires c κs = search needs
@@ -36,13 +36,13 @@ returns-3 : tie.Need-returns-3
 unfolding restScan
 returns-3 c =
     c .queue .ensures
-    ∙ rw (← c .before .before .before .before .before .before .before .looped .ensures, not-false (c .before .before .before .before .before .before .before .looped .result) (c .before .before .before .before .before .before .if1 .left), ← c .before .before .before .before .most-of .ensures .0, ← c .before .before .before .full-of .ensures, ← c .before .before .books .ensures, not-false (c .before .before .books .result) (c .before .if2 .left))
+    ∙ rw (← c .before .before .before .before .before .before .before .loop-record .ensures, not-false (c .before .before .before .before .before .before .before .loop-record .result) (c .before .before .before .before .before .before .if1 .left), ← c .before .before .before .before .most-of .ensures .0, ← c .before .before .before .full-of .ensures, ← c .before .before .books .ensures, not-false (c .before .before .books .result) (c .before .if2 .left))
 
 pub rest-spec : {M : Type 1} → statement M
 rest-spec =
     tie.close
     (tie.spec
-    looped-requires
+    loop-record-requires
     returns
     shared-slice-read-depth
     most-of-requires
