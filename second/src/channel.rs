@@ -59,7 +59,7 @@ impl Channel {
         (answer, self.waiting())
     }
 
-    /// A loop goes on whatever lies between its W.
+    /// Drops the record under a flip; without one a loop goes on whatever lies between its W.
     fn drop_loop_if(&mut self, flip: Flip) {
         if on(flip) {
             self.running = None;

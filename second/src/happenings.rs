@@ -8,7 +8,7 @@ use crate::channel::Channel;
 use crate::instrument::Instrument;
 use crate::keeper::Keeper;
 use crate::loops::Loop;
-use crate::message::{self, Message, Snapshot};
+use crate::message::{snapshot_of, Snapshot};
 use crate::run::run_plainly;
 use crate::script::Call;
 
@@ -34,6 +34,9 @@ happenings! {
     Other911: "a loop dropped: the next W had another 911",
     Above911: "a loop dropped: 34 above 911",
     Anew: "a loop begun anew in its middle",
+    AnewOf1: "a loop of 1 in the middle of another",
+    AnewNames: "whole after it was begun anew: one taken that the loop before named",
+    AnewLowest: "whole after it was begun anew: one taken, the lowest 369 before was lower",
     NoneRuns: "34 above 1 where no loop runs",
     ClosingAgain: "the closing W once more",
     Opened: "a store opened anew in the middle of a loop",
@@ -135,7 +138,7 @@ impl Happenings {
 }
 
 /// A W of the running loop: its 369, what it was answered, and its instrument.
-struct Heard {
+struct InRow {
     last: u64,
     answer: u64,
     id: u64,
@@ -146,7 +149,9 @@ struct Heard {
 struct Watch {
     keeper: Keeper,
     /// The W of the running loop, as far as they were seen.
-    heard: Vec<Heard>,
+    row: Vec<InRow>,
+    /// The loop that it was begun in the middle of.
+    dropped: Option<Loop>,
     /// What lay between them.
     between: BTreeSet<Happening>,
     /// The message that ended a loop, while no other W has come.
@@ -187,19 +192,20 @@ impl Watch {
         run_plainly(&mut keeper, call);
         let (Some(ran), None) = (record(&before), record(&keeper.channel)) else { return };
         let Call::Feed { message, .. } = call else { return };
-        let Some(snapshot) = before.and_then(|it| snapshot_of(&it, message)) else { return };
+        let Some(snapshot) = before.and_then(|it| snapshot_of(message, it.depth)) else { return };
         let ended = ran.come + 1 == ran.reports && is_next(&ran, &snapshot);
         counts.count_if(ended && ran.reports == 4_294_967_295, Happening::WholeOfAll);
     }
 
     fn forget(&mut self) {
-        self.heard.clear();
+        self.row.clear();
+        self.dropped = None;
         self.between.clear();
     }
 
     /// A message that was fed to a sound store.
     fn fed(&mut self, before: &Channel, bytes: &[u8], answer: u64, counts: &mut Happenings) {
-        match snapshot_of(before, bytes) {
+        match snapshot_of(bytes, before.depth) {
             Some(snapshot) => self.turn(before, &snapshot, answer, bytes, counts),
             None if before.running.is_some() => self.lay_between(before, bytes, answer),
             None => {}
@@ -243,10 +249,11 @@ impl Watch {
         if !goes_on {
             count_other(before.running.as_ref(), snapshot, counts);
             self.forget();
+            self.dropped = before.running.clone();
         }
         counts.count_if(self.closing.as_deref() == Some(bytes), Happening::ClosingAgain);
         self.closing = None;
-        self.heard.push(Heard { last: snapshot.last, answer, id: snapshot.id });
+        self.row.push(InRow { last: snapshot.last, answer, id: snapshot.id });
         let whole = snapshot.number == snapshot.reports && (goes_on || snapshot.number == 1);
         if whole {
             self.ended(before, snapshot, counts);
@@ -265,30 +272,43 @@ impl Watch {
         });
         self.between.iter().for_each(|over| counts.count(*over));
         let after = self.keeper.channel.as_ref().expect("opened");
-        let (last, earlier) = self.heard.split_last().expect("a loop");
+        let (last, earlier) = self.row.split_last().expect("a loop");
         self.count_row(earlier, counts);
-        let named = |instrument: &Instrument| self.heard.iter().any(|w| w.id == instrument.id);
-        let unnamed: Vec<(&Instrument, &Instrument)> =
-            before.instruments.iter().zip(&after.instruments).filter(|(was, _)| !named(was)).collect();
-        let waited: Vec<_> = unnamed.iter().filter(|(was, _)| was.waiting).copied().collect();
-        counts.count_if(waited.len() < unnamed.len(), Happening::UnnamedLive);
-        let left = after.instruments.iter().filter(|it| it.waiting && named(it));
-        counts.count_if(left.clone().count() > 0, Happening::NamedWaits);
-        let was_taken = |it: &&Instrument| earlier.iter().any(|w| w.id == it.id && w.answer == TAKEN);
-        counts.count_if(left.filter(was_taken).count() > 0, Happening::BrokenSince);
+        let pairs = before.instruments.iter().zip(&after.instruments);
+        let waited: Vec<_> = pairs.filter(|(was, _)| was.waiting && !self.names(was)).collect();
         if !waited.is_empty() {
             self.count_lowest(before, counts);
             count_closed(last.answer, &waited, counts);
-            count_unnamed(before, after, self.lowest(), &waited, counts);
+        }
+        let lowest = self.lowest();
+        if before.b <= lowest && lowest <= before.h {
+            self.count_left(before, after, earlier, counts);
+            count_unnamed(before, after, lowest, &waited, counts);
+            self.dropped.iter().for_each(|dropped| count_anew(dropped, lowest, &waited, counts));
         }
     }
 
+    /// Whether a W of the loop names this instrument.
+    fn names(&self, instrument: &Instrument) -> bool {
+        self.row.iter().any(|w| w.id == instrument.id)
+    }
+
+    /// What the step left as it was: the Live, and the named.
+    fn count_left(&self, before: &Channel, after: &Channel, earlier: &[InRow], counts: &mut Happenings) {
+        let live = before.instruments.iter().any(|it| !it.waiting && !self.names(it));
+        counts.count_if(live, Happening::UnnamedLive);
+        let left = || after.instruments.iter().filter(|it| it.waiting && self.names(it));
+        counts.count_if(left().count() > 0, Happening::NamedWaits);
+        let was_taken = |it: &Instrument| earlier.iter().any(|w| w.id == it.id && w.answer == TAKEN);
+        counts.count_if(left().any(|it| it.reason > 0 && was_taken(it)), Happening::BrokenSince);
+    }
+
     fn lowest(&self) -> u64 {
-        self.heard.iter().map(|w| w.last).min().expect("a loop")
+        self.row.iter().map(|w| w.last).min().expect("a loop")
     }
 
     /// What the W before the closing one were answered.
-    fn count_row(&self, earlier: &[Heard], counts: &mut Happenings) {
+    fn count_row(&self, earlier: &[InRow], counts: &mut Happenings) {
         let held = [
             (SNAPSHOT_NOT_FOLLOWED, Happening::Held5),
             (ALREADY_LIVE, Happening::Held6),
@@ -313,22 +333,14 @@ impl Watch {
         counts.count_if(lowest == h && b == h, Happening::LowAtBoth);
         counts.count_if(lowest == h + 1, Happening::LowJustAboveH);
         counts.count_if(lowest > h, Happening::LowAboveH);
-        let told: Vec<usize> = (0..self.heard.len()).filter(|i| self.heard[*i].last == lowest).collect();
-        let n = self.heard.len();
+        let told: Vec<usize> = (0..self.row.len()).filter(|i| self.row[*i].last == lowest).collect();
+        let n = self.row.len();
         counts.count_if(n > 1 && told == [0], Happening::LowFirst);
         counts.count_if(n > 2 && told.len() == 1 && told[0] > 0 && told[0] < n - 1, Happening::LowMiddle);
         counts.count_if(n > 1 && told == [n - 1], Happening::LowClosing);
-        let followed = |i: &usize| self.heard[*i].answer != SNAPSHOT_NOT_FOLLOWED;
-        let others = self.heard.iter().any(|w| w.answer != SNAPSHOT_NOT_FOLLOWED);
+        let followed = |i: &usize| self.row[*i].answer != SNAPSHOT_NOT_FOLLOWED;
+        let others = self.row.iter().any(|w| w.answer != SNAPSHOT_NOT_FOLLOWED);
         counts.count_if(others && !told.iter().any(followed), Happening::LowUnfollowed);
-    }
-}
-
-/// The well-formed W that these bytes are for a channel.
-fn snapshot_of(channel: &Channel, bytes: &[u8]) -> Option<Snapshot> {
-    match message::read(bytes, channel.depth) {
-        Ok(Message::Snapshot(snapshot)) => Some(snapshot),
-        _ => None,
     }
 }
 
@@ -345,6 +357,7 @@ fn count_other(ran: Option<&Loop>, snapshot: &Snapshot, counts: &mut Happenings)
     };
     let same = reports == ran.reports;
     counts.count_if(number == 1, Happening::Anew);
+    counts.count_if(number == 1 && reports == 1, Happening::AnewOf1);
     counts.count_if(same && number > ran.come + 1 && number <= reports, Happening::Missed);
     counts.count_if(same && number == ran.come && number > 1, Happening::Again);
     counts.count_if(same && number < ran.come && number > 1, Happening::Earlier);
@@ -369,7 +382,14 @@ fn count_closed(answer: u64, waited: &[(&Instrument, &Instrument)], counts: &mut
     with_taken.into_iter().filter(|_| taken).for_each(|happening| counts.count(happening));
 }
 
-/// What became of the unnamed instruments that waited.
+/// A whole loop that was begun anew, where names or lowest 369 of the one before would have mattered.
+fn count_anew(dropped: &Loop, lowest: u64, waited: &[(&Instrument, &Instrument)], counts: &mut Happenings) {
+    let mut taken = waited.iter().filter(|(_, is)| !is.waiting).map(|(was, _)| was.id);
+    counts.count_if(taken.clone().count() > 0 && dropped.lowest < lowest, Happening::AnewLowest);
+    counts.count_if(taken.any(|id| dropped.named.contains(&id)), Happening::AnewNames);
+}
+
+/// What became of the unnamed instruments that waited, with the lowest 369 in B to H.
 fn count_unnamed(
     before: &Channel,
     after: &Channel,
@@ -377,9 +397,6 @@ fn count_unnamed(
     waited: &[(&Instrument, &Instrument)],
     counts: &mut Happenings,
 ) {
-    if lowest < before.b || lowest > before.h {
-        return;
-    }
     let replays = |id: u64| before.queue.iter().any(|it| it.entry.id == id && it.number > lowest);
     for (was, is) in waited {
         match (is.waiting, is.reason) {

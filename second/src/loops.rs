@@ -53,6 +53,16 @@ impl Loop {
         begun
     }
 
+    /// The loop that such a W begins in the middle of another, of which it keeps nothing.
+    fn begun_anew(self, turn: &Turn, answer: u64) -> Loop {
+        let mut begun = Loop::begun(turn, answer);
+        if on(Flip::LoopAnewKeepsNames) {
+            begun.named.extend(self.named);
+        }
+        begun.lowest = either(Flip::LoopAnewKeepsLowest, begun.lowest, begun.lowest.min(self.lowest));
+        begun
+    }
+
     /// Whether a W is the next of this loop.
     fn goes_on(&self, turn: &Turn) -> bool {
         let again = turn.number == self.come && on(Flip::LoopRepeatGoesOn);
@@ -105,7 +115,8 @@ pub fn after(record: Option<Loop>, turn: &Turn, answer: u64) -> Option<Loop> {
         Some(running) if turn.number > 1 && on(Flip::LoopOtherLeaves) => Some(running),
         Some(running) if turn.number > turn.reports && on(Flip::LoopAbove911Leaves) => Some(running),
         Some(_) if on(Flip::LoopBegunOnceOnly) => None,
-        _ => begins(turn).then(|| Loop::begun(turn, answer)),
+        Some(running) => begins(turn).then(|| running.begun_anew(turn, answer)),
+        None => begins(turn).then(|| Loop::begun(turn, answer)),
     }
 }
 
@@ -132,8 +143,10 @@ impl Channel {
         let mut told = answer;
         let mut ended = false;
         if !kept_out(answer) {
-            match after(self.running.take(), turn, answer) {
+            let ran = self.running.take();
+            match after(ran.clone(), turn, answer) {
                 Some(whole) if whole.is_whole() => {
+                    self.running = ran.filter(|_| whole.reports == 1 && on(Flip::LoopOf1Leaves));
                     told = self.end_loop(&whole, turn, answer);
                     ended = true;
                 }

@@ -51,6 +51,14 @@ pub fn read(message: &[u8], depth: Depth) -> Result<Message, u64> {
     read.filter(|_| ends_stand_once(middle)).ok_or(FIELDS)
 }
 
+/// The W that these bytes are, if they are a well-formed one.
+pub fn snapshot_of(bytes: &[u8], depth: Depth) -> Option<Snapshot> {
+    match read(bytes, depth) {
+        Ok(Message::Snapshot(snapshot)) => Some(snapshot),
+        _ => None,
+    }
+}
+
 /// 8, 9, 35 and 10 stand once.
 fn ends_stand_once(middle: &[Field]) -> bool {
     !middle.iter().any(|field| [8, 9, 35, 10].contains(&field.0)) || on(Flip::EndsTwice)

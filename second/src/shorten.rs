@@ -1,5 +1,6 @@
-//! Shortens messages inside a script, with 9, 10 and 268 kept right where they were right, changes
-//! of a store, quantities of lots, and recordings with the room that is lent for their walks.
+//! Shortens the stream and the loops of snapshots of a script by a message each, messages inside it,
+//! with 9, 10 and 268 kept right where they were right, changes of a store, quantities of lots, and
+//! recordings with the room that is lent for their walks.
 
 use crate::gen::draft::{Draft, DraftField};
 use crate::salvage::{pieces, Piece, PIECE_NUMBERS};
@@ -53,7 +54,8 @@ fn lower(call: &mut Call, number: u64) {
     }
 }
 
-/// The script without one W: of those with the same 911, that and the later 34 lowered by one.
+/// The script without one W; in the others with its 911 that is lowered by one, and so is a 34
+/// above its own.
 pub fn without_turn(calls: &[Call], place: usize) -> Option<Vec<Call>> {
     let draft = draft_of(&calls[place]).filter(|draft| is_snapshot(&draft.fields))?;
     let (number, reports) = (told(&draft.fields, "34")?, told(&draft.fields, "911")?);

@@ -1,5 +1,5 @@
-//! Shortens a script that shows something: calls are left out, then parts of messages and of
-//! recordings, and lots are made smaller.
+//! Shortens a script that shows something: calls are left out, the stream and loops of snapshots
+//! closing up behind them, then parts of messages and of recordings, and lots are made smaller.
 
 use crate::script::Call;
 use crate::shorten::{

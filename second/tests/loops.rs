@@ -3,13 +3,12 @@
 
 use std::collections::BTreeSet;
 
-use selkavorn_second::book::Depth;
 use selkavorn_second::channel::Channel;
 use selkavorn_second::gen::script;
 use selkavorn_second::keeper::Keeper;
 use selkavorn_second::layout::{read, words, AT_REPORTS, LAYOUT};
 use selkavorn_second::loops::Loop;
-use selkavorn_second::message::{self, Message, Snapshot};
+use selkavorn_second::message::{snapshot_of, Snapshot};
 use selkavorn_second::run::run_plainly;
 use selkavorn_second::script::Call;
 
@@ -211,6 +210,20 @@ fn begun_anew() {
     fed(&mut keeper, &w((2, 2), OTHER, 4, 0), (5, 0));
 }
 
+/// A loop of 1 is whole at once, with a lowest and names of its own; the loop in whose middle it
+/// came is dropped.
+#[test]
+fn a_loop_of_1_in_the_middle_of_another() {
+    let mut keeper = keeper();
+    fed(&mut keeper, &w((1, 2), OTHER, 5, 0), (5, 3));
+    fed(&mut keeper, &w((1, 1), OTHER, 6, 0), (5, 3));
+    assert_eq!(record(&keeper), NO_LOOP);
+    fed(&mut keeper, &w((2, 2), OTHER, 5, 0), (5, 3));
+    fed(&mut keeper, &w((1, 2), 8, 1, 0), (7, 3));
+    fed(&mut keeper, &w((1, 1), OTHER, 4, 0), (5, 0));
+    assert_eq!(record(&keeper), NO_LOOP);
+}
+
 /// 1 and 2 of one loop and 3 of the next are whole together, if their 911 is one.
 #[test]
 fn of_two_loops() {
@@ -384,15 +397,6 @@ fn the_longest_loop() {
     assert_eq!([8, 9].map(|id| state(&keeper, id)), [[0, 0, 0], [0, 0, 1]]);
 }
 
-/// The well-formed W that a call feeds.
-fn snapshot_of(call: &Call, depth: Depth) -> Option<Snapshot> {
-    let Call::Feed { message, .. } = call else { return None };
-    match message::read(message, depth) {
-        Ok(Message::Snapshot(snapshot)) => Some(snapshot),
-        _ => None,
-    }
-}
-
 /// The W that are in a row at the end of all that came: as many as 34 of the last says, numbered 1,
 /// 2, .. with one 911.
 fn last_row(all: &[Snapshot]) -> Option<&[Snapshot]> {
@@ -417,7 +421,9 @@ fn walk_scripts(mut seen: impl FnMut(&Channel, &Call, &Channel, &[Snapshot])) {
                 all.clear();
             }
             let (Some(before), Some(after)) = (before, &keeper.channel) else { continue };
-            all.extend(snapshot_of(&call, before.depth).filter(|_| !line.starts_with("feed 17")));
+            if let Call::Feed { message, .. } = &call {
+                all.extend(snapshot_of(message, before.depth).filter(|_| !line.starts_with("feed 17")));
+            }
             seen(&before, &call, after, &all);
         }
     }
@@ -446,12 +452,12 @@ fn the_record_is_the_last_row() {
 fn the_end_is_so_many_empty_snapshots() {
     let mut ended = 0;
     walk_scripts(|before, call, after, all| {
-        let Some(snapshot) = snapshot_of(call, before.depth) else { return };
+        let Call::Feed { message, .. } = call else { return };
+        let Some(snapshot) = snapshot_of(message, before.depth) else { return };
         let Some(row) = last_row(all).filter(|row| row.len() as u64 == snapshot.reports) else { return };
         if snapshot.reports == 1 || before.running.is_none() {
             return;
         }
-        let Call::Feed { message, .. } = call else { return };
         let mut other = Channel { running: None, ..before.clone() };
         other.feed(message);
         let named: BTreeSet<u64> = row.iter().map(|w| w.id).collect();

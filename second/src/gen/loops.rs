@@ -42,6 +42,8 @@ enum Fault {
     Above911,
     /// The loop begins anew.
     Anew,
+    /// A loop of 1 comes.
+    AnewOf1,
     /// The store is opened anew.
     Opened,
 }
@@ -136,7 +138,7 @@ impl Generator {
         if self.rng.chance(4) {
             return Opened;
         }
-        *self.rng.pick(&[Missed, Again, Earlier, Other911, Above911, Anew])
+        *self.rng.pick(&[Missed, Again, Earlier, Other911, Above911, Anew, Anew, AnewOf1])
     }
 
     /// Entries in the queue for an instrument that is left out: ones that an empty book bears, or
@@ -188,7 +190,10 @@ impl Generator {
             };
             match fault {
                 Some(Fault::Missed) => turn += 1,
-                Some(Fault::Anew) => turn = 1,
+                Some(Fault::Anew) => {
+                    plan.left_out.extend(self.named(true));
+                    turn = 1;
+                }
                 Some(fault) => self.disturb(plan, fault, turn, &message),
                 None => {}
             }
@@ -222,6 +227,10 @@ impl Generator {
                 let message = self.turn_draft(plan, number.min(LAST_NUMBER), plan.reports).seal();
                 self.feed(message);
             }
+            Fault::AnewOf1 => {
+                let message = self.turn_draft(plan, 1, 1).seal();
+                self.feed(message);
+            }
             Fault::Opened => {
                 self.reopen();
                 (plan.left_out, plan.closer) = (Vec::new(), None);
@@ -232,7 +241,7 @@ impl Generator {
 
     /// Something between two W of a loop.
     fn between(&mut self, plan: &Plan, turn: u64) {
-        match self.rng.below(18) {
+        match self.rng.below(20) {
             0 | 1 if !self.exchange.at_end() => {
                 let message = self.exchange.next_other(&mut self.rng).seal();
                 self.feed(message);
@@ -244,7 +253,24 @@ impl Generator {
             10 if self.rng.chance(40) => self.downpour(),
             11 => self.quote(),
             12 => self.state(),
+            14 | 15 => self.break_named(),
             _ => self.next(),
+        }
+    }
+
+    /// The followed instruments that the running loop named, the Waiting or the Live ones.
+    fn named(&self, waiting: bool) -> Vec<usize> {
+        let running = self.channel().and_then(|channel| channel.running.as_ref());
+        let named = |i: &usize| running.is_some_and(|it| it.named.contains(&self.exchange.ids[*i]));
+        self.marked(waiting).into_iter().filter(named).collect()
+    }
+
+    /// One that the running loop named, and that is Live, breaks.
+    fn break_named(&mut self) {
+        let named = self.named(false);
+        if !named.is_empty() {
+            let index = *self.rng.pick(&named);
+            self.queue_unfitting(index);
         }
     }
 
