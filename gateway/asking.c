@@ -17,17 +17,16 @@ void take_dating(const struct board *board, const struct request *request, struc
 void take_asked(const struct board *board, const struct request *request, size_t place,
                 struct asked *asked)
 {
-    uint64_t state[SELKAVORN_STATE_NUMBERS] = {0};
+    struct standing standing = board_standing(board, request->ids[place]);
     const char *given = request->names[place];
     *asked = (struct asked){.id = request->ids[place],
                             .name = given[0] != '\0' ? given : board->names[place],
+                            .answer = standing.answer,
                             .withheld = board->lost_reset ? "a sequence reset was lost" : NULL};
-    asked->answer = selkavorn_state(board->store, SELKAVORN_STORE_NUMBERS, asked->id, state,
-                                    SELKAVORN_STATE_NUMBERS);
-    if (asked->answer != SELKAVORN_DONE || state[SELKAVORN_STATE_WAITING] == 0)
+    if (!standing.waiting)
         return;
     asked->answer = SELKAVORN_WAITING;
-    asked->reason = waiting_words(state[SELKAVORN_STATE_REASON]);
+    asked->reason = waiting_words(standing.reason);
 }
 
 bool is_given(const struct asked *asked)

@@ -1,4 +1,5 @@
-/* A board: opened, asked what it has counted, and one that only judges messages. */
+/* A board: opened, asked what it has counted and how an instrument stands, and one that only judges
+ * messages. */
 #include "board.h"
 
 uint64_t board_open(struct board *board, const struct request *request)
@@ -16,6 +17,16 @@ struct heading board_heading(const struct board *board)
                             .date = out[SELKAVORN_BOARD_HEARD_DATE],
                             .time = out[SELKAVORN_BOARD_HEARD_TIME],
                             .marks = out[SELKAVORN_BOARD_MARKS]};
+}
+
+struct standing board_standing(const struct board *board, uint64_t id)
+{
+    uint64_t out[SELKAVORN_STATE_NUMBERS] = {0};
+    uint64_t answer = selkavorn_state(board->store, SELKAVORN_STORE_NUMBERS, id, out,
+                                      SELKAVORN_STATE_NUMBERS);
+    return (struct standing){.answer = answer,
+                             .waiting = out[SELKAVORN_STATE_WAITING] == 1,
+                             .reason = out[SELKAVORN_STATE_REASON]};
 }
 
 uint64_t judge(const struct request *request, const struct piece *message)

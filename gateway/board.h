@@ -27,11 +27,21 @@ struct heading {
     uint64_t marks;      /* bit i is 1 if instrument i of the request, from 0, waits */
 };
 
+/* How an instrument stands on a board. */
+struct standing {
+    uint64_t answer; /* of the library; where it refuses, the rest is false and 0 */
+    bool waiting;
+    uint64_t reason; /* why it last broke, of enum selkavorn_reason */
+};
+
 /* Opens the board with the depth and the instruments of the request; gives the library's answer. */
 uint64_t board_open(struct board *board, const struct request *request);
 
 /* Says what the board has counted and who waits; nothing where the library refuses the store. */
 struct heading board_heading(const struct board *board);
+
+/* Says how an instrument stands. */
+struct standing board_standing(const struct board *board, uint64_t id);
 
 /* Feeds a message to a board that is kept for this alone: its answers 13 and 14 are those of every
  * board, and any lower one says that the message is well-formed. */

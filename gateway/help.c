@@ -27,8 +27,9 @@ static const char COMMANDS[] =
     "\n"
     "The exchange sends no snapshot of an empty book. At the end of a whole loop of\n"
     "snapshots (34 = 1, 2 and so on to 911, each once and in order) an instrument\n"
-    "that waits and that the loop does not name goes Live with an empty book. So does\n"
-    "one that the channel does not have.\n";
+    "that waits and that the loop does not name starts from an empty book as of the\n"
+    "loop's lowest 369, if that is in the queue's reach. So does one that the channel\n"
+    "does not have.\n";
 
 static const char OPTIONS[] =
     "\n"

@@ -11,13 +11,6 @@ static bool is_among(uint64_t bits, size_t place)
     return (bits >> place & 1) == 1;
 }
 
-static uint64_t reason_of(const struct board *board, uint64_t id)
-{
-    uint64_t state[SELKAVORN_STATE_NUMBERS] = {0};
-    selkavorn_state(board->store, SELKAVORN_STORE_NUMBERS, id, state, SELKAVORN_STATE_NUMBERS);
-    return state[SELKAVORN_STATE_REASON];
-}
-
 void loops_before(struct loops *loops, const struct board *board, const struct request *request,
                   const struct piece *message, const struct heading *before)
 {
@@ -28,7 +21,7 @@ void loops_before(struct loops *loops, const struct board *board, const struct r
     for (size_t i = 0; i < request->ids_n; i++)
         if (is_among(before->marks, i) && request->ids[i] != own) {
             loops->others |= UINT64_C(1) << i;
-            loops->reasons[i] = reason_of(board, request->ids[i]);
+            loops->reasons[i] = board_standing(board, request->ids[i]).reason;
         }
 }
 
@@ -59,18 +52,17 @@ void loops_after(struct loops *loops, const struct board *board, const struct re
     if (!message_has_type(message, 'W') || !is_well_formed(answer))
         return;
     take_lowest(loops, message);
-    uint64_t waiting = loops->others == 0 ? 0 : board_heading(board).marks;
     for (size_t i = 0; i < request->ids_n; i++) {
         if (!is_among(loops->others, i))
             continue;
-        bool live = !is_among(waiting, i);
-        uint64_t id = request->ids[i], reason = reason_of(board, id);
-        loops->taken += live;
+        uint64_t id = request->ids[i];
+        struct standing now = board_standing(board, id);
+        loops->taken += !now.waiting;
         if (request->quote_only)
             continue;
-        if (live)
+        if (!now.waiting)
             print_live(loops, id);
-        else if (reason != loops->reasons[i])
-            print_broken(loops, id, reason);
+        else if (now.reason != loops->reasons[i])
+            print_broken(loops, id, now.reason);
     }
 }

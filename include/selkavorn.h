@@ -16,8 +16,8 @@
  *   gap        a number above H + 1: messages between were lost, so every book may be wrong. All
  *              books are emptied and all instruments wait.
  *   followed   an instrument that was named at opening. Entries for others are passed over.
- *   Live       the book is the exchange's as of message H, if the duties below are kept and the
- *              exchange's own stream does not break it.
+ *   Live       the book is the exchange's as of message H, if the duties below are kept, what is
+ *              supposed of whole loops is so, and the exchange's own stream does not break it.
  *   Waiting    the book is empty and is not to be used; it waits for a snapshot, or for a whole
  *              loop that does not name it.
  *   broken     an entry did not fit its side (no such place, or no room among 20): the instrument
@@ -46,12 +46,13 @@
  *   lowest 369 of the loop, if S is in B to H: the queued entries above S are applied to an empty
  *   book, and it is Live. If one does not fit it stays Waiting, with the reason. If S is not in B
  *   to H nothing changes, and it waits for the next whole loop.
- *   Every W that is answered 4 to 10 is in the row, whether it is followed and taken or not. One
- *   that does not go on with the loop drops it, and begins another if its own 34 is 1; with
- *   911 = 1 that is whole at once. A W that is answered 11 to 14 is not in the row. Messages of
- *   other types may lie between, and a gap drops no loop; selkavorn_open does. The answer is that
- *   of the W itself; the number of Waiting instruments beside it is the one after all this.
- *   Supposed is that an instrument which a whole loop does not name had an empty book as of the
+ *   Every W that is answered 4 to 10 is in the row, whether its instrument is followed and it is
+ *   taken or not. One that does not go on with the loop drops it, and begins another if its own 34
+ *   is 1; with 911 = 1 that is whole at once. A W that is answered 11 to 14 is not in the row.
+ *   Messages of other types may lie between, and a gap drops no loop; selkavorn_open does. The
+ *   answer is that of the W itself; the number of Waiting instruments beside it is the one after
+ *   all this.
+ *   It is supposed that an instrument which a whole loop does not name had an empty book as of the
  *   lowest 369 of that loop. The library cannot see whether that is so: see duties 8 and 9.
  *
  * The store
@@ -65,8 +66,8 @@
  *
  * Duties of the caller
  *   1. Feed the incremental stream whole, in the order in which it comes, and the W messages of its
- *      snapshot stream, at any point between them. One call takes one message. One with
- *      a number that comes again, as from a second line, does no harm; of a W see duty 8.
+ *      snapshot stream, at any point between them. One call takes one message. A message with a
+ *      number that comes again, as from a second line, does no harm; for a W see duty 8.
  *   2. Do not feed the other messages of the snapshot stream, its heartbeats (35=0) above all, nor
  *      any other stream: their numbers (34) would be counted as those of the incremental stream.
  *   3. After a sequence reset (35=4) on the incremental stream its numbers start anew: call
@@ -83,11 +84,11 @@
  *      multiple of 8 bytes. Each run has at least as many elements as its count says.
  *   7. Take "now" from a clock that is right, in the time zone of tag 52, which is UTC. The age of
  *      a quote is no better than that clock.
- *   8. Feed the W messages of the snapshot stream as one line brings them: all of them, each once,
- *      in the order in which they come. One that is left out, comes again or comes late drops the
- *      loop that runs, and an instrument with no snapshot waits for the next whole one; or, where
- *      its 34 is the next, that loop goes on with it, and is then made of the parts of two (duty
- *      9). Where two lines bring the same snapshots, feed those of one.
+ *   8. Feed the W messages of the snapshot stream as one line brings them: all of them, duty 9
+ *      apart, each once, in the order in which they come. One that is left out, comes again or
+ *      comes late drops the loop that runs, and an instrument with no snapshot waits for the next
+ *      whole one; or, where its 34 is the next, that loop goes on with it, and is then made of the
+ *      parts of two (duty 9). Where two lines bring the same snapshots, feed those of one.
  *   9. See that a whole loop is the exchange's, since what it does not name is taken for empty.
  *      Follow instruments of this channel alone: another is never named, and goes Live with an
  *      empty book. Feed no W of another maker in a loop of the exchange's: 34 = 1 with 911 = 1 is a
@@ -127,7 +128,7 @@
  *     5 to 9 refuse a snapshot, and its own instrument stays as it was. The store remembers that
  *     the W came in its loop, or dropped or began one. Where it ends a whole loop, the Waiting
  *     instruments that the loop does not name change as said above, and if none waits then the
- *     queue is let go, as ever. All else stays.
+ *     queue is emptied and B becomes H. All else stays.
  *     Any other number but 0 is a refusal: store and output are left as they were, to the last
  *     number and byte.
  *
@@ -195,8 +196,8 @@ enum selkavorn_answer {
     SELKAVORN_SNAPSHOT_LIVE = 6,
     /* S is below B: the queue does not reach back to it. Wait for the next loop of snapshots. */
     SELKAVORN_SNAPSHOT_BELOW = 7,
-    /* S is above H: messages up to S have yet to come. Wait for the next loop. Fed again once H
-     * reaches S it is taken, and is a W that came again (duty 8). */
+    /* S is above H: messages up to S have yet to come. Wait for the next loop; fed again it would
+     * be a W that came again (duty 8). */
     SELKAVORN_SNAPSHOT_ABOVE = 8,
     /* A side of the snapshot has over 20 places. Wait for the next loop. */
     SELKAVORN_SNAPSHOT_OVER = 9,
@@ -334,7 +335,7 @@ enum selkavorn_reason {
     SELKAVORN_REASON_NO_ROOM = 2 /* a new entry came to a side of 20 */
 };
 
-/* Opens a store: nothing counted, every instrument Waiting with an empty book.
+/* Opens a store: nothing counted, every instrument Waiting with an empty book, no loop that runs.
  *   depth       of enum selkavorn_depth
  *   ids, ids_n  the SecurityIDs to follow: 1 to 16, no two alike
  * Answers 0; 17 if store_n is under SELKAVORN_STORE_NUMBERS; 18 for any other argument.

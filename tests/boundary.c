@@ -1,10 +1,10 @@
 /* Tests of the boundary between C and the library.
  *
  * Every answer number is reached. Around every call the lent runs are watched: a refusal must leave
- * store and output as they were, and nothing may touch the guards around them, what lies beyond a
- * store's 7,168 numbers, or what lies beyond a quote, a lot, a state, a summary, a written message
- * or the pieces of a recording. What a call only reads ends where memory that cannot be read
- * begins. */
+ * store and output as they were, 5 to 9 all but what the loop changes, and nothing may touch the
+ * guards around them, what lies beyond a store's 7,168 numbers, or what lies beyond a quote, a lot,
+ * a state, a summary, a written message or the pieces of a recording. What a call only reads ends
+ * where memory that cannot be read begins. */
 #define _DEFAULT_SOURCE /* for MAP_ANONYMOUS */
 
 #include <inttypes.h>
@@ -36,6 +36,7 @@ static unsigned passed, failed;
 static const char *group_name = "";
 static unsigned passed_before, failed_before; /* the group */
 static bool reached[256];                     /* answer numbers */
+static bool alone_reached[256];               /* those by which the loop record alone may change */
 enum way { SELL, BUY, WAYS };
 static bool lot_reached[WAYS][256];           /* answer numbers of selling and of buying */
 
@@ -147,6 +148,19 @@ static void check_store(const struct board *board, size_t may)
           may == 0 ? "store after a refusal" : "beyond the store");
 }
 
+/* The loop record in the store: 911, how many W have come, the lowest 369, the names. */
+enum { RECORD_AT = 8, RECORD_OF = 0, RECORD_CAME = 1, RECORD_NUMBERS = 4 };
+
+/* Of the store only the loop record may differ from before. */
+static void check_record_alone(const struct board *board, const char *what)
+{
+    const uint64_t *now = board->area + GUARD, *old = board->before + GUARD;
+    const size_t rest = RECORD_AT + RECORD_NUMBERS;
+    check(memcmp(now, old, RECORD_AT * sizeof *now) == 0 &&
+              memcmp(now + rest, old + rest, (STORE_ROOM - rest) * sizeof *now) == 0,
+          what);
+}
+
 /* The first `wrote` numbers and bytes of the outputs are written, the others not. */
 static void check_outputs(size_t wrote_numbers, size_t wrote_bytes)
 {
@@ -181,6 +195,25 @@ static void open_fresh(struct board *board, uint64_t depth)
     check_equal(open_board(board, depth, ids, 2), SELKAVORN_DONE, "opening");
 }
 
+/* Whether a message has this field, which is written with the SOH before it and its own. */
+static bool has_field(const uint8_t *message, size_t n, const char *field)
+{
+    const size_t length = strlen(field);
+    for (size_t i = 0; i + length <= n; i++)
+        if (memcmp(message + i, field, length) == 0)
+            return true;
+    return false;
+}
+
+/* Whether the W that was fed may have ended a whole loop: none runs after it, and before it one ran
+ * of which only the last was to come, or it is the only one of its own. */
+static bool may_end_loop(const struct board *board, const uint8_t *message, size_t n)
+{
+    const uint64_t *now = board->area + GUARD + RECORD_AT, *old = board->before + GUARD + RECORD_AT;
+    return now[RECORD_OF] == 0 && (old[RECORD_CAME] + 1 == old[RECORD_OF] ||
+                                   has_field(message, n, "\001911=1\001"));
+}
+
 static uint64_t feed_bytes(struct board *board, const uint8_t *message, size_t n)
 {
     before_call(board);
@@ -188,8 +221,13 @@ static uint64_t feed_bytes(struct board *board, const uint8_t *message, size_t n
     uint64_t answer = SELKAVORN_ANSWER(answered);
     bool changes = answer == SELKAVORN_DONE || answer == SELKAVORN_GAP ||
                    (answer >= SELKAVORN_LET_GO && answer <= SELKAVORN_REPLAY_BROKE);
+    bool refused = answer >= SELKAVORN_SNAPSHOT_UNFOLLOWED && answer <= SELKAVORN_SNAPSHOT_OVER;
     reached[answer] = true;
     check_store(board, changes ? SELKAVORN_STORE_NUMBERS : 0);
+    if (refused && !may_end_loop(board, message, n)) {
+        alone_reached[answer] = true;
+        check_record_alone(board, "store after 5 to 9");
+    }
     check_outputs(0, 0);
     return answered;
 }
@@ -986,8 +1024,7 @@ static void test_summary(void)
 
 /* ---- loops of snapshots ---- */
 
-/* The loop record in the store: 911, how many W have come, the lowest 369, the instruments named. */
-enum { LAYOUT_AT = 0, OLDER_LAYOUT = 4601, RECORD_AT = 8, RECORD_NUMBERS = 4 };
+enum { LAYOUT_AT = 0, OLDER_LAYOUT = 4601 };
 struct record {
     uint64_t numbers[RECORD_NUMBERS];
 };
@@ -1029,16 +1066,6 @@ static void check_record(struct record wanted, const char *what)
         check_equal(store_of(&first)[RECORD_AT + i], wanted.numbers[i], what);
 }
 
-/* Since the last call nothing of the store changed but the loop record. */
-static void check_record_alone(const char *what)
-{
-    const uint64_t *now = store_of(&first), *old = first.before + GUARD;
-    const size_t rest = RECORD_AT + RECORD_NUMBERS;
-    check(memcmp(now, old, RECORD_AT * sizeof *now) == 0 &&
-              memcmp(now + rest, old + rest, (STORE_ROOM - rest) * sizeof *now) == 0,
-          what);
-}
-
 /* How an instrument must stand. */
 struct standing {
     uint64_t waiting, reason, bids;
@@ -1062,7 +1089,6 @@ static void test_loop(void)
     feed_turn(1, 3, 7, 5, SELKAVORN_TAKEN, 2, "7 has a snapshot");
     check_record((struct record){{3, 1, 5, 1}}, "the first of three");
     feed_turn(2, 3, OTHER, 3, SELKAVORN_SNAPSHOT_UNFOLLOWED, 2, "another has one too");
-    check_record_alone("a W that is not followed changes the record alone");
     check_record((struct record){{3, 2, 3, 1}}, "two of three");
     feed_turn(3, 3, 7, 4, SELKAVORN_SNAPSHOT_LIVE, 0, "the loop is whole: 8 and 9 are Live");
     check_record(no_loop, "a whole loop ends its record");
@@ -1092,6 +1118,15 @@ static void test_loop_of_one(void)
     open_fresh(&first, SELKAVORN_PRICE_DEPTH);
     feed_turn(1, 1, 7, 0, SELKAVORN_TAKEN, 0, "nothing heard: 0 is B and H");
     check_equal(quote(&first, 9, "20250103-13:00:00", 0, 17), SELKAVORN_UNHEARD, "9 is Live");
+    open_options();
+    feed_turn(1, 4, OTHER, 3, SELKAVORN_SNAPSHOT_UNFOLLOWED, 3, "one of four");
+    feed_turn(2, 4, 9, 6, SELKAVORN_SNAPSHOT_ABOVE, 3, "two of four, 9 is named");
+    feed_turn(1, 1, OTHER, 5, SELKAVORN_SNAPSHOT_UNFOLLOWED, 0, "one of one between them");
+    check_record(no_loop, "the loop that ran is gone");
+    check_standing(8, live, "8: message 4 is not above 369 = 5");
+    check_standing(9, live, "9: that loop named it, this one does not");
+    feed_turn(3, 4, OTHER, 5, SELKAVORN_SNAPSHOT_UNFOLLOWED, 0, "three of four");
+    check_record(no_loop, "there is no loop to go on with");
     end();
 }
 
@@ -1158,6 +1193,8 @@ static void test_broken_loops(void)
         check_record(no_loop, "nothing is left of it");
     }
     feed_turn(2, 2, OTHER, 5, SELKAVORN_SNAPSHOT_UNFOLLOWED, 3, "where no loop runs");
+    check_record(no_loop, "none begins");
+    check_record_alone(&first, "nothing changes where no loop runs");
     feed_turn(1, 2, 9, 6, SELKAVORN_SNAPSHOT_ABOVE, 3, "a loop that names 9");
     feed_turn(1, 2, OTHER, 5, SELKAVORN_SNAPSHOT_UNFOLLOWED, 3, "begun anew");
     feed_turn(2, 2, OTHER, 5, SELKAVORN_SNAPSHOT_UNFOLLOWED, 0, "it is whole, and names none");
@@ -1181,6 +1218,8 @@ static void test_lowest(void)
                           SELKAVORN_SNAPSHOT_UNFOLLOWED, turn < 3 ? 3 : cases[i].waiting,
                           "in B to H, wherever it stands");
             check_record(no_loop, "the loop is whole whatever its lowest is");
+            if (cases[i].waiting == 3)
+                check_record_alone(&first, "nothing changes where it is not in B to H");
         }
     end();
 }
@@ -1192,13 +1231,10 @@ static void test_named(void)
     feed(&first, SELKAVORN_DONE, 3, "9 will break",
          "35=X|34=6|" AT "268=1|279=2|269=0|48=9|22=8|290=7|");
     feed_turn(1, 4, 7, 7, SELKAVORN_SNAPSHOT_ABOVE, 3, "7 is named, above H");
-    check_record_alone("a W above H changes the record alone");
     feed_turn(2, 4, 8, 1, SELKAVORN_SNAPSHOT_BELOW, 3, "8 is named, below B");
-    check_record_alone("a W below B changes the record alone");
     feed_turn(1, 3, 7, 7, SELKAVORN_SNAPSHOT_ABOVE, 3, "anew, 7 is named");
     make_turn(2, 3, 8, 6, 21);
     feed_made(&first, SELKAVORN_SNAPSHOT_OVER, 3, "8 is named, a side over 20");
-    check_record_alone("a W with a side over 20 changes the record alone");
     check_record((struct record){{3, 2, 6, 3}}, "7 and 8 are named");
     feed_turn(3, 3, 9, 5, SELKAVORN_REPLAY_BROKE, 3, "9 is named, its replay breaks");
     check_standing(7, waits, "7 is left");
@@ -1209,6 +1245,27 @@ static void test_named(void)
     feed_turn(2, 2, OTHER, 6, SELKAVORN_SNAPSHOT_UNFOLLOWED, 1, "8 and 9 are not named");
     check_standing(7, (struct standing){1, SELKAVORN_REASON_PLACE, 0}, "7 was");
     check_standing(9, live, "the reason of 9 is cleared");
+    end();
+}
+
+/* Each of 16 can be named, the last by bit 15. */
+static void test_most_named(void)
+{
+    static const uint64_t ids[] = {1, 2, 3, 4, 5, 6, 7, 8, 9, 10, 11, 12, 13, 14, 15, 16};
+    begin("16 named instruments");
+    fresh(&first);
+    check_equal(open_board(&first, SELKAVORN_ORDER_DEPTH, ids, 16), SELKAVORN_DONE, "opening");
+    feed_turn(1, 2, 16, 1, SELKAVORN_SNAPSHOT_ABOVE, 16, "16 is named, above H");
+    check_record((struct record){{2, 1, 1, 32768}}, "its bit is the last");
+    feed_turn(2, 2, OTHER, 0, SELKAVORN_SNAPSHOT_UNFOLLOWED, 1, "the others are Live");
+    check_summary(0, 0, 0, 0, 32768, "16 is left");
+    feed(&first, SELKAVORN_GAP, 16, "a gap", HEARTBEAT, 3);
+    for (int id = 1; id <= 16; id++)
+        feed_turn((uint64_t)id, 17, id, 4, SELKAVORN_SNAPSHOT_ABOVE, 16, "each is named");
+    check_record((struct record){{17, 16, 4, 65535}}, "all bits");
+    feed_turn(17, 17, OTHER, 3, SELKAVORN_SNAPSHOT_UNFOLLOWED, 16, "whole, and all are named");
+    check_record(no_loop, "a whole loop ends its record");
+    check_record_alone(&first, "all are left");
     end();
 }
 
@@ -1247,6 +1304,7 @@ static void test_replays(void)
 static void test_between(void)
 {
     static const struct record one = {{2, 1, 5, 1}};
+    static const char types[] = "0fyB";
     begin("between two W");
     open_options();
     feed_turn(1, 2, 7, 5, SELKAVORN_TAKEN, 2, "one of two");
@@ -1260,15 +1318,24 @@ static void test_between(void)
     feed(&first, SELKAVORN_FIELDS, 2, "911 = 0, and 34 = 1",
          "35=W|34=1|" AT "48=55|22=8|369=5|911=0|268=0|");
     feed(&first, SELKAVORN_OLD, 2, "an old one", HEARTBEAT, 5);
-    feed(&first, SELKAVORN_DONE, 2, "the next one", HEARTBEAT, 6);
-    feed(&first, SELKAVORN_DONE, 2, "an X", "35=X|34=7|" AT "268=1|" NEW_BID);
+    for (int i = 0; types[i] != '\0'; i++)
+        feed(&first, SELKAVORN_DONE, 2, "the next one", "35=%c|34=%d|" AT, types[i], 6 + i);
+    feed(&first, SELKAVORN_DONE, 2, "an X", "35=X|34=10|" AT "268=1|" NEW_BID);
     check_record(one, "the record stays");
     feed_turn(2, 2, OTHER, 5, SELKAVORN_SNAPSHOT_UNFOLLOWED, 0, "two of two");
-    feed_turn(1, 2, 7, 11, SELKAVORN_SNAPSHOT_LIVE, 0, "one of two");
-    feed(&first, SELKAVORN_GAP, 3, "a gap", HEARTBEAT, 11);
-    check_record((struct record){{2, 1, 11, 1}}, "the record stays after a gap");
-    feed_turn(2, 2, OTHER, 12, SELKAVORN_SNAPSHOT_UNFOLLOWED, 1, "two of two, 7 was named");
-    feed_turn(1, 2, OTHER, 11, SELKAVORN_SNAPSHOT_UNFOLLOWED, 1, "one of two");
+    feed_turn(1, 2, 7, 20, SELKAVORN_SNAPSHOT_LIVE, 0, "one of two");
+    feed(&first, SELKAVORN_GAP, 3, "a gap", HEARTBEAT, 20);
+    check_record((struct record){{2, 1, 20, 1}}, "the record stays after a gap");
+    feed_turn(2, 2, OTHER, 21, SELKAVORN_SNAPSHOT_UNFOLLOWED, 1, "two of two, 7 was named");
+    open_options();
+    feed_turn(1, 2, 7, 5, SELKAVORN_TAKEN, 2, "one of two");
+    for (int number = 6; number <= 9; number++) {
+        make_empties(number, 64);
+        feed_made(&first, number < 9 ? SELKAVORN_DONE : SELKAVORN_LET_GO, 2, "64 entries");
+    }
+    check_record(one, "the record stays after the queue is let go");
+    feed_turn(2, 2, OTHER, 9, SELKAVORN_SNAPSHOT_UNFOLLOWED, 2, "two of two, 5 is below B");
+    feed_turn(1, 2, OTHER, 9, SELKAVORN_SNAPSHOT_UNFOLLOWED, 2, "one of two");
     open_fresh(&first, SELKAVORN_ORDER_DEPTH);
     check_record(no_loop, "opening clears it");
     end();
@@ -1669,6 +1736,8 @@ static void test_reached(void)
         snprintf(name, sizeof name, "answer %u", answer);
         if (known || reached[answer])
             check(known && reached[answer], name);
+        if (answer >= SELKAVORN_SNAPSHOT_UNFOLLOWED && answer <= SELKAVORN_SNAPSHOT_OVER)
+            check(alone_reached[answer], "the record alone changes by 5, 6, 7, 8 and 9, each");
         snprintf(name, sizeof name, "answer %u of lots", answer);
         for (enum way way = SELL; way < WAYS; way++)
             if (of_lots || lot_reached[way][answer])
@@ -1700,6 +1769,7 @@ int main(void)
     test_broken_loops();
     test_lowest();
     test_named();
+    test_most_named();
     test_replays();
     test_between();
     test_loop_store();

@@ -1,6 +1,6 @@
 # shellcheck shell=sh disable=SC2154
-# loops.sh: the tests of whole loops of snapshots. scripts/test-c reads it, and has check, ends, prints, replays, writes, $work and the names
-# of recordings and instruments.
+# loops.sh: the tests of whole loops of snapshots. scripts/test-c reads it, and has check, ends, prints, replays, writes, $work and the
+# names of recordings and instruments.
 options=target/c/options.fix
 empty_call=3811350
 followed=3810077,3811310,3811320,3811330,$empty_call
@@ -56,13 +56,15 @@ line_of() {
     of=${1#*/} first=${1%/*}
     case $1 in
     n*) echo "send 35=0|34=${1#n}|52=$2|" ;;
+    x*) echo "send 35=X|34=${1#x}|52=$2|268=1|279=2|269=0|48=7|22=8|290=1|" ;;
     w*) echo "send 35=W|34=${first#w}|52=$2|48=9|22=8|369=${of#*@}|911=${of%@*}|268=0|" ;;
     reset) echo "send 35=4|34=1|52=$2|36=1|" ;;
     esac
 }
 
-# loops NUMBER STATUS PIECE..: whether a replay for instruments 7 and 8 tells of a whole loop in so many lines and ends with this status. n5
-# is a heartbeat with number 5; w2/3@1 a snapshot with 34 = 2, 911 = 3 and 369 = 1, of an instrument that is not followed.
+# loops NUMBER STATUS PIECE..: whether a replay for instruments 7 and 8 tells of a whole loop in so many lines and ends with this
+# status. n5 is a heartbeat with number 5, x5 an X that deletes a bid of 7; w2/3@1 is a snapshot with 34 = 2, 911 = 3 and 369 = 1, of an
+# instrument that is not followed.
 loops() {
     number=$1 status=$2 second=10
     shift 2
@@ -87,12 +89,19 @@ check "loops: one between is missing" loops 0 4 n1 w1/3@1 w3/3@1
 check "loops: one comes again" loops 0 4 n1 w1/3@1 w2/3@1 w2/3@1 w3/3@1
 check "loops: the first comes again" loops 2 0 n1 w1/3@1 w1/3@1 w2/3@1 w3/3@1
 check "loops: another 911" loops 0 4 n1 w1/3@1 w2/2@1 w3/3@1
-check "loops: one that is refused for its fields is not of the row" loops 2 0 n1 w1/2@1 w1/1@01 w2/2@1
+check "loops: one that is refused for its fields is not of the row" loops 2 0 n1 n2 w1/2@2 w1/1@01 w2/2@2
+check "loops: nor is its number the lowest" grep -q 'Live with an empty book at 2$' "$work/out"
 check "loops: a reset drops it" loops 0 4 n1 w1/2@1 reset n1 w2/2@1
+check "loops: what is queued does not fit" loops 2 0 n1 x2 w1/1@1
+check "loops: the reason is told" \
+    grep -q "loop whole: 7 still Waiting: an empty book at 1 and the queue do not fit, an entry's place was not there$" "$work/out"
+check "loops: it does not fit again, and there is no line" loops 2 0 n1 x2 w1/1@1 w1/1@1
+check "loops: from a later number on it fits" loops 3 0 n1 x2 w1/1@1 w1/1@1 w1/1@2
 
 # ---- snapshots that are written ----
 
-# by_itself NUMBER ARGUMENTS..: whether so many lines tell of a whole loop where a snapshot that was written is all that another board takes.
+# by_itself NUMBER ARGUMENTS..: whether so many lines tell of a whole loop where a snapshot that was written is all that another board
+# takes.
 by_itself() {
     number=$1
     shift
