@@ -166,7 +166,7 @@ module _ (l : Loop) (b : Board) (e : within (b .B) (b .H) (l .low) ≡ true) whe
 
 pub outside-stays : OutsideStays
 unfolding ended
-outside-stays l b e = rw e
+outside-stays l b e = ap (λ (t : Bool). cond t (settled true (withInsts (ends l (b .queue) 0 (b .insts)) b)) b) e
 
 -- where none waits on a sound board the queue is let go already
 settled-sound : (b : Board) → Sound b → settled true b ≡ b
