@@ -1,4 +1,5 @@
 -- `save_loop` meets its contract: four stores in a row.
+use mathlib.Core.Path.{refl}
 use lib.ListN.{length-set}
 use native.Mathlib.Omega.{arith}
 use borrow.Author.Needs.{needs}
@@ -24,7 +25,7 @@ same-length : tie.Need-same-length
 same-length c = search needs
 
 returns : tie.Need-returns
-returns c = search needs
+returns c = refl
 
 pub save-loop-spec : {M : Type 1} → statement M
 save-loop-spec =
