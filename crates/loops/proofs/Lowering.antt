@@ -29,7 +29,7 @@ use Rattle.loops.specs.Channel.{Channel, channel, joinedBy, given}
 use Rattle.loops.specs.Calls.{called, calls, Throughout}
 use Rattle.loops.specs.Demand.{AtEnd}
 use Rattle.loops.specs.Sound.{SoundChannel}
-use Rattle.loops.specs.Laws.{emptyFor, unnamed}
+use Rattle.loops.specs.Laws.{headFor, emptyFor, unnamed}
 use Rattle.loops.proofs.Ending.{end-is-snapshots}
 use Rattle.loops.proofs.Laws.{keeps-sound}
 
@@ -146,7 +146,7 @@ others d l i (x ∷ xs) b e =
     let p = neither (eqb (x .id) d) (among d (idsOf xs)) e in
     by-test (λ (cs : List Call). inst d (board.calls cs b) ≡ inst d b) (marked (l .named) i) (λ _. others d l (suc i) xs b (p .1))
     (λ _. others d l (suc i) xs (feed (emptyFor (x .id) (l .low)) b .board) (p .1)
-    ∙ own-snapshot-only d (record { number = 1; heard = 0; id = x .id; last = l .low; loops = 1 }) [] b (λ q. eqb-false (x .id) d (p .0) (sym q)))
+    ∙ own-snapshot-only d (headFor (x .id) (l .low)) [] b (λ q. eqb-false (x .id) d (p .0) (sym q)))
 
 -- what is supposed of d where it waits before the snapshots and is Live behind them is supposed of the one for d that is taken
 module _ (P : Call → Board → Type 0) (d : ℕ) (l : Loop) (R : Type 0)
@@ -160,7 +160,7 @@ module _ (P : Call → Board → Type 0) (d : ℕ) (l : Loop) (R : Type 0)
       go (marked (l .named) i) (p .0) (unnamed-through (suc i) xs b (p .1)) (unnamed-through (suc i) xs after (p .1)) g
     where
       h : Head
-      h = record { number = 1; heard = 0; id = x .id; last = l .low; loops = 1 }
+      h = headFor (x .id) (l .low)
 
       after : Board
       after = feed (emptyFor (x .id) (l .low)) b .board

@@ -23,8 +23,11 @@ use Rattle.loops.specs.Rows.{cameIn, loopAfter}
 
 -- The loop's end is snapshots: it leaves the board that a W with no entries and 369 the lowest would, for one instrument after another
 -- that the loop did not name.
+abbrev pub headFor : ℕ → ℕ → Head
+headFor d S = record { number = 1; heard = 0; id = d; last = S; loops = 1 }
+
 abbrev pub emptyFor : ℕ → ℕ → Message
-emptyFor d S = snapshot (record { number = 1; heard = 0; id = d; last = S; loops = 1 }) []
+emptyFor d S = snapshot (headFor d S) []
 
 -- These calls for the instruments from index i on.
 unfoldable pub unnamed : Loop → ℕ → List Inst → List Call

@@ -1,3 +1,4 @@
 pub mod Ends
 pub mod Gives
 pub mod Laws
+pub mod Once

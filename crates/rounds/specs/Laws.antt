@@ -1,4 +1,5 @@
--- What is shown of a message on a store: in range it leaves of a sound store the numbers of the channel after it, which are sound again.
+-- What is shown of a message on a store: what it leaves is settled; in range it leaves of a sound store the numbers of the channel after
+-- it, which are sound again.
 use mathlib.Core.Path.{_≡_}
 use mathlib.Core.Bool.{true}
 use mathlib.Core.List.{List, _++_}
@@ -20,6 +21,12 @@ pub record Left (m : Message) (xs : List ℕ) (a : ℕ) (ys : List ℕ) : Type 0
   pub store : ys ≡ written (given m (channelAt xs) .channel) ++ drop storeSize xs
   pub channel : channelAt ys ≡ given m (channelAt xs) .channel
   pub again : sound ys ≡ true
+
+-- The contract settles all: of any two outcomes that it allows the answer, the record, the heading and every number of the store are equal.
+abbrev pub GivesOnce : Type 0
+GivesOnce =
+    (m : Message) (l : Loop) (s : State) (a b : ℕ) (row other : Loop) (t u : State) → Gives m l s a row t → Gives m l s b other u
+    → (a ≡ b) × (row ≡ other) × (t ≡ u)
 
 -- A sound store with its heading and its loop's record saved after a message in range.
 abbrev pub SoundIsLeft : Type 0

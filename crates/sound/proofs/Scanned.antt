@@ -14,7 +14,7 @@ use Rattle.board.specs.Ranges.{within, idFine, updateFine}
 use Rattle.board.specs.Sound.{distinct}
 use Rattle.board.proofs.Tested.{both, three, four, and-true, within-true, is-within}
 use Rattle.loops.specs.Sound.{soundLoop}
-use Rattle.store.specs.Layout.{storeSize, atDepth, atFollowed, atNumber, atMarks, atQueued, idOf, reasonOf, bidsOf, offersOf, slotOf}
+use Rattle.store.specs.Layout.{storeSize, atDepth, atFollowed, atNumber, atMarks, atQueued, headingUsed, headingSpare, idOf, reasonOf, bidsOf, offersOf, slotOf}
 use Rattle.store.specs.Meaning.{loopAt}
 use Rattle.sides.specs.Side.{each, allZero, sideScan, roomOf}
 use Rattle.scan.specs.Scan.{headingScan, recordScan, spread, recordsScan, mostOf, fullOf, bookScan, booksScan, updateScan, slotScan, lowOf, queueScan, restScan, scan}
@@ -169,7 +169,7 @@ module _ (xs : List ℕ) where
       let h = headed xs (p .1) in
       let few : n ≤ 16 = h .few in
       let room : q ≤ 256 = h .room in
-      let r = four (allZero xs 12 20) (each record-tests n) (allZero xs (32 + n * 8) (128 - n * 8)) (distinct (spread xs 32 8 n)) (p .2) in
+      let r = four (allZero xs headingUsed headingSpare) (each record-tests n) (allZero xs (32 + n * 8) (128 - n * 8)) (distinct (spread xs 32 8 n)) (p .2) in
       let s = three (soundLoop n (loopAt xs)) (booksScan most full xs) (queueScan most full xs) (p .3) in
       let t = both (each book-tests n) (allZero xs (160 + n * 256) (4096 - n * 256)) (s .1) in
       let u = both (each slot-tests q) (allZero xs (4256 + q * 11) (2912 - q * 11)) (s .2) in
@@ -182,7 +182,7 @@ module _ (xs : List ℕ) where
         head = h;
         loop = s .0;
         zeros = record {
-          heading = λ k l m. run 12 20 k (r .0) l (omega arith);
+          heading = λ k l m. run headingUsed headingSpare k (r .0) l (omega arith);
           in-record = λ i j l m o. rec i l .spare j m o;
           records = λ k l m. run (32 + n * 8) (128 - n * 8) k (r .2) l (omega arith);
           in-side = λ i j l m o.
@@ -213,7 +213,7 @@ module _ (xs : List ℕ) where
       and-true (le-leb storeSize (length xs) (s .long))
       (and-true (heading-of xs h)
       (and-true
-      (and-true (zero-of xs 12 20 (λ k l. s .zeros .heading (12 + k) (omega arith) (omega arith)))
+      (and-true (zero-of xs headingUsed headingSpare (λ k l. s .zeros .heading (headingUsed + k) (omega arith) (omega arith)))
       (and-true (each-of record-tests n (λ i l. facts-record xs i (s .records i l)))
       (and-true (zero-of xs (32 + n * 8) (128 - n * 8) (λ k l. s .zeros .records (32 + n * 8 + k) (omega arith) (omega arith))) (s .apart))))
       (and-true (s .loop)

@@ -66,7 +66,7 @@ loop-saved l xs h =
 
 module _ (l : Loop) (xs : List ℕ) where
   -- it is no number of the heading
-  loop-heading : headingAt (withLoop l xs) ≡ headingAt xs
+  pub loop-heading : headingAt (withLoop l xs) ≡ headingAt xs
   loop-heading =
       let a = loop-agree l xs in
       rw (
