@@ -4,8 +4,8 @@ use mathlib.Core.Path.{_≡_}
 use mathlib.Core.Bool.{true}
 use mathlib.Core.List.{List, [], _∷_}
 use Prim.Native.Nat.{ℕ}
-use lib.IntN.{pos}
 use lib.ListN.{take}
+use Rattle.holding.specs.Prices.{hundredths}
 use Rattle.book.specs.declared.Entry.{Entry}
 use Rattle.book.specs.declared.Update.{Update}
 use Rattle.book.specs.Sides.{noEntry}
@@ -16,25 +16,25 @@ use Rattle.board.specs.Demand.{NumberedFromOne, NeverBreaks, Right}
 use Rattle.board.specs.Sound.{opens}
 use Rattle.board.specs.Laws.{InRange}
 
--- An order for one at a price, with the order id n.
+-- An order for one at a price of so many hundredths, with the order id n.
 abbrev pub order : ℕ → ℕ → Entry
-order n price = record { price = pos price; size = 1; by = n; more = 0; moment = 0 }
+order n price = record { price = hundredths price; size = 1; by = n; more = 0; moment = 0 }
 
 abbrev pub newBid : ℕ → ℕ → Entry → Update
 newBid d p e = record { who = d; what = 0; action = 0; place = p; entry = e }
 
 -- Two bids for 7; the third message takes the lower one away, and the fourth says nothing of 7.
 abbrev pub first : Message
-first = numbered 1 100 (newBid 7 1 (order 1 240000000) ∷ [])
+first = numbered 1 100 (newBid 7 1 (order 1 2400) ∷ [])
 
 abbrev pub second : Message
-second = numbered 2 200 (newBid 7 1 (order 2 240100000) ∷ [])
+second = numbered 2 200 (newBid 7 1 (order 2 2401) ∷ [])
 
 abbrev pub third : Message
 third = numbered 3 300 (record { who = 7; what = 0; action = 2; place = 2; entry = noEntry } ∷ [])
 
 abbrev pub fourth : Message
-fourth = numbered 4 400 (newBid 9 1 (order 3 110000000) ∷ [])
+fourth = numbered 4 400 (newBid 9 1 (order 3 1100) ∷ [])
 
 unfoldable pub stream : List Message
 stream = first ∷ second ∷ third ∷ fourth ∷ []
@@ -43,7 +43,7 @@ stream = first ∷ second ∷ third ∷ fourth ∷ []
 abbrev pub showing : ℕ → Message
 showing S =
     snapshot (record { number = 1; heard = 350; id = 7; last = S; loops = 1 })
-    (newBid 7 1 (order 2 240100000) ∷ newBid 7 2 (order 1 240000000) ∷ [])
+    (newBid 7 1 (order 2 2401) ∷ newBid 7 2 (order 1 2400) ∷ [])
 
 -- The second message comes late, after the third; snapshots of 1 and 4 come before one of 2.
 unfoldable pub received : List Call
@@ -67,6 +67,6 @@ pub record Recovered : Type 0 where
   pub m11-last : calls (take 3 received) hut .H ≡ 3
   -- 7 is Live with the bid that message 3 left, and 9 waits
   pub live : Live 7 (calls received hut)
-  pub book : inst 7 (calls received hut) .book ≡ record { bids = order 2 240100000 ∷ []; offers = [] }
+  pub book : inst 7 (calls received hut) .book ≡ record { bids = order 2 2401 ∷ []; offers = [] }
   pub waits : inst 9 (calls received hut) .waiting ≡ true
   pub last : calls received hut .H ≡ 4

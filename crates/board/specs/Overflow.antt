@@ -4,8 +4,8 @@ use mathlib.Core.Path.{_≡_}
 use mathlib.Core.Bool.{true}
 use mathlib.Core.List.{List, [], _∷_}
 use Prim.Native.Nat.{ℕ, _*_}
-use lib.IntN.{pos}
 use lib.ListN.{replicate, take}
+use Rattle.holding.specs.Prices.{hundredths}
 use Rattle.book.specs.Rules.{breach}
 use Rattle.book.specs.Sides.{noEntry}
 use Rattle.book.specs.declared.Entry.{Entry}
@@ -19,7 +19,7 @@ use Rattle.board.specs.Laws.{InRange}
 
 -- A level of one order, for n.
 abbrev pub level : ℕ → Entry
-level n = record { price = pos 240000000; size = n; by = 1; more = 0; moment = 0 }
+level n = record { price = hundredths 2400; size = n; by = 1; more = 0; moment = 0 }
 
 -- Place 1 of a side of d, new (0) or changed (1): 0 is the bids, 1 the offers.
 abbrev pub placeOne : ℕ → ℕ → ℕ → Entry → Update

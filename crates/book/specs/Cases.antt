@@ -33,17 +33,17 @@ pub record TenBids (a b c d e f g h i j x : Entry) : Type 0 where
       deleteAt (sideOf (a ∷ b ∷ c ∷ d ∷ e ∷ f ∷ g ∷ h ∷ i ∷ j ∷ [])) 7
       ≡ record { side = sideOf (a ∷ b ∷ c ∷ d ∷ e ∷ f ∷ h ∷ i ∷ j ∷ []); reason = 0 }
 
--- So many at a price in ten-millionths.
+-- So many at a price in hundredths: a book asks nothing of the unit.
 abbrev pub of : ℕ → ℕ → Entry
 of size price = record { price = pos price; size = size; by = 0; more = 0; moment = 0 }
 
 -- The book of section 9.1, with other bids.
 abbrev pub drawn : List Entry → Lists
-drawn bids = record { bids = bids; offers = of 7000 110300000 ∷ of 2000 110300000 ∷ of 1000 110500000 ∷ [] }
+drawn bids = record { bids = bids; offers = of 7000 1103 ∷ of 2000 1103 ∷ of 1000 1105 ∷ [] }
 
 -- Its four bids.
 abbrev pub fourBids : List Entry
-fourBids = of 5000 105800000 ∷ of 4000 105800000 ∷ of 3000 105700000 ∷ of 4000 105400000 ∷ []
+fourBids = of 5000 1058 ∷ of 4000 1058 ∷ of 3000 1057 ∷ of 4000 1054 ∷ []
 
 -- A bid entry that deletes.
 abbrev pub deletes : ℕ → ℕ → Update
@@ -52,7 +52,7 @@ deletes action place = record { who = 0; what = 0; action = action; place = plac
 -- A sweep of the first three bids leaves the book of section 9.4, and all bids cancelled that of section 9.5. In document 01 the first is
 -- delete thru 3 and the second delete from 1; 000 gives each of the two the other's number, and by 01 those leave other books.
 pub record Drawn : Type 0 where
-  pub swept : bookStep (bookOf (drawn fourBids)) (deletes 3 3) ≡ record { book = bookOf (drawn (of 4000 105400000 ∷ [])); reason = 0 }
+  pub swept : bookStep (bookOf (drawn fourBids)) (deletes 3 3) ≡ record { book = bookOf (drawn (of 4000 1054 ∷ [])); reason = 0 }
   pub cancelled : bookStep (bookOf (drawn fourBids)) (deletes 4 1) ≡ record { book = bookOf (drawn []); reason = 0 }
   pub from-3 : bookStep (bookOf (drawn fourBids)) (deletes 4 3) ≡ record { book = bookOf (drawn (take 2 fourBids)); reason = 0 }
   pub thru-1 : bookStep (bookOf (drawn fourBids)) (deletes 3 1) ≡ record { book = bookOf (drawn (drop 1 fourBids)); reason = 0 }

@@ -3,6 +3,31 @@
 ghost use mathlib.Core.Path.{_≡_};
 ghost use Rattle.holding.specs.Prices.{heldOf, ofHeld};
 
+// The digits of tag 270 before the point and after it.
+pub const WHOLES: usize = 9;
+
+pub const DECIMALS: usize = 7;
+
+// Ten to the number of zeros.
+pub const TENS: [u64; 10] = [
+    1,
+    10,
+    100,
+    1000,
+    10000,
+    100000,
+    1000000,
+    10000000,
+    100000000,
+    1000000000,
+];
+
+// A price of 1.
+pub const UNIT: u64 = TENS[DECIMALS];
+
+// The greatest number that holds a price of tag 270.
+pub const MOST_PRICE: u64 = (TENS[WHOLES] * UNIT - 1) * 2;
+
 // The number that holds a price: 0 for 0, then 1 for the first below, 2 for the first above, and so on. Every number of
 // 64 bits holds one price, and the prices of tag 270 fill one range from 0.
 pub fn held(p: i64) -> u64

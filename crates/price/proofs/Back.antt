@@ -13,7 +13,7 @@ use lib.Signed.{ltZ}
 use lib.ListN.{length, take, drop}
 use lib.Seq.{take-append-seam, drop-append-seam, take-length, drop-length}
 use Rattle.digits.specs.Digits.{isDigit, allDigits, value, digitsOf}
-use Rattle.price.specs.Price.{top, ahead, fractionOf, joined, amountOf, priceOf, plus, minus}
+use Rattle.price.specs.Price.{mostWholes, mostDecimals, unit, top, ahead, fractionOf, joined, amountOf, priceOf, plus, minus}
 use Rattle.digits.specs.declared.Number.the-variants.{Is}
 use Rattle.price.specs.declared.Priced.{Priced}
 use Rattle.digits.proofs.Width.{both}
@@ -69,32 +69,32 @@ kept (suc k) f p h =
     go false e r =
         record { any = rw length-fixed (omega arith); most = omega (arith, length-fixed (suc k) f); digits = digits-fixed (suc k) f; same = rw (length-fixed, sub-self, value-fixed (suc k) f h) (mul-one f) }
 
-fraction-back : (f : ℕ) → 0 < f → f < 10000000 → fractionOf (46 ∷ decimals 7 f) ≡ Is f
+fraction-back : (f : ℕ) → 0 < f → f < unit → fractionOf (46 ∷ decimals mostDecimals f) ≡ Is f
 unfolding fractionOf digitsOf
 fraction-back f p h =
-    let a = kept 7 f p h in
-    rw (le-leb 1 (length (decimals 7 f)) (a .any), le-leb (length (decimals 7 f)) 7 (a .most), a .digits, a .same)
+    let a = kept mostDecimals f p h in
+    rw (le-leb 1 (length (decimals mostDecimals f)) (a .any), le-leb (length (decimals mostDecimals f)) mostDecimals (a .most), a .digits, a .same)
 
-pub parts-back : (w f : ℕ) → w < 1000000000 → f < 10000000 → amountOf (decimal w ++ fractionText f) ≡ Is (w * 10000000 + f)
+pub parts-back : (w f : ℕ) → w < 10 ^ mostWholes → f < unit → amountOf (decimal w ++ fractionText f) ≡ Is (w * unit + f)
 unfolding amountOf fractionText fractionOf
 parts-back w f h k = go (eqb f 0) refl
   where
     clear : free 46 (decimal w) ≡ true
     clear = digits-free 46 (decimal w) refl (digits-decimal w)
 
-    read : digitsOf 9 (decimal w) ≡ Is w
-    read = digits-back 9 w (omega arith) (omega arith) h
+    read : digitsOf mostWholes (decimal w) ≡ Is w
+    read = digits-back mostWholes w (omega arith) (omega arith) h
 
     go : (t : Bool) → eqb f 0 ≡ t
-        → joined (digitsOf 9 (take (ahead 46 (decimal w ++ cond t [] (46 ∷ decimals 7 f))) (decimal w ++ cond t [] (46 ∷ decimals 7 f)))) (fractionOf (drop (ahead 46 (decimal w ++ cond t [] (46 ∷ decimals 7 f))) (decimal w ++ cond t [] (46 ∷ decimals 7 f)))) ≡ Is (w * 10000000 + f)
-    go true e = rw (append-nil (decimal w), ahead-none 46 (decimal w) clear, take-length (decimal w), drop-length (decimal w), read) (ap (λ (n : ℕ). Is (w * 10000000 + n)) (sym (eqb-true f 0 e)))
+        → joined (digitsOf mostWholes (take (ahead 46 (decimal w ++ cond t [] (46 ∷ decimals mostDecimals f))) (decimal w ++ cond t [] (46 ∷ decimals mostDecimals f)))) (fractionOf (drop (ahead 46 (decimal w ++ cond t [] (46 ∷ decimals mostDecimals f))) (decimal w ++ cond t [] (46 ∷ decimals mostDecimals f)))) ≡ Is (w * unit + f)
+    go true e = rw (append-nil (decimal w), ahead-none 46 (decimal w) clear, take-length (decimal w), drop-length (decimal w), read) (ap (λ (n : ℕ). Is (w * unit + n)) (sym (eqb-true f 0 e)))
     go false e =
-        let d : fractionOf (46 ∷ decimals 7 f) ≡ Is f = fraction-back f (omega (arith, eqb-false f 0 e)) k in
-        rw (ahead-at 46 (decimal w) (decimals 7 f) clear, take-append-seam (decimal w) (46 ∷ decimals 7 f), drop-append-seam (decimal w) (46 ∷ decimals 7 f), read) (ap (joined (Is w)) d)
+        let d : fractionOf (46 ∷ decimals mostDecimals f) ≡ Is f = fraction-back f (omega (arith, eqb-false f 0 e)) k in
+        rw (ahead-at 46 (decimal w) (decimals mostDecimals f) clear, take-append-seam (decimal w) (46 ∷ decimals mostDecimals f), drop-append-seam (decimal w) (46 ∷ decimals mostDecimals f), read) (ap (joined (Is w)) d)
 
 pub amount-back : (m : ℕ) → m < top → amountOf (amountText m) ≡ Is m
 unfolding amountText
-amount-back m h = parts-back (m / 10000000) (m % 10000000) (omega arith) (omega arith) ∙ ap Is (let q : m / 10000000 * 10000000 + m % 10000000 ≡ m = omega arith in q)
+amount-back m h = parts-back (m / unit) (m % unit) (omega arith) (omega arith) ∙ ap Is (let q : m / unit * unit + m % unit ≡ m = omega arith in q)
 
 no-minus : (a r : List ℕ) → 0 < length a → allDigits a ≡ true → priceOf (a ++ r) ≡ plus (amountOf (a ++ r))
 unfolding priceOf
@@ -110,7 +110,7 @@ decimal-some n = rw length-decimal (width-pos 17 n)
 
 plus-amount : (m : ℕ) → priceOf (amountText m) ≡ plus (amountOf (amountText m))
 unfolding amountText
-plus-amount m = no-minus (decimal (m / 10000000)) (fractionText (m % 10000000)) (decimal-some (m / 10000000)) (digits-decimal (m / 10000000))
+plus-amount m = no-minus (decimal (m / unit)) (fractionText (m % unit)) (decimal-some (m / unit)) (digits-decimal (m / unit))
 
 minus-amount : (m : ℕ) → priceOf (45 ∷ amountText m) ≡ minus (amountOf (amountText m))
 unfolding priceOf

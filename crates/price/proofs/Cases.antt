@@ -28,9 +28,9 @@ pub m4-point : priceOf (49 ∷ 46 ∷ []) ≡ Priced.No
 unfolding priceOf amountOf fractionOf digitsOf
 m4-point = refl
 
-pub m4-eight : priceOf (49 ∷ 46 ∷ 49 ∷ 50 ∷ 51 ∷ 52 ∷ 53 ∷ 54 ∷ 55 ∷ 56 ∷ []) ≡ Priced.No
+pub m4-many : priceOf (49 ∷ 46 ∷ 49 ∷ 50 ∷ 51 ∷ 52 ∷ 53 ∷ 54 ∷ 55 ∷ 56 ∷ []) ≡ Priced.No
 unfolding priceOf amountOf fractionOf digitsOf
-m4-eight = refl
+m4-many = refl
 
 -- 0 is written as 0, and -0.5 as -0.5
 pub writes-zero : priceText (pos 0) ≡ 48 ∷ []

@@ -17,7 +17,7 @@ use Rattle.digits.specs.declared.Number.{Number}
 use Rattle.digits.specs.declared.Number.the-variants.{Is, No}
 use Rattle.digits.proofs.Width.{below, digits-width}
 use Rattle.price.specs.declared.Priced.{Priced}
-use Rattle.price.specs.Price.{unit, top, ahead, scaled, fractionOf, joined, amountOf, minus, plus, priceOf}
+use Rattle.price.specs.Price.{mostWholes, mostDecimals, unit, top, ahead, scaled, fractionOf, joined, amountOf, minus, plus, priceOf}
 
 -- where the point stands, a byte at a time
 module _ (s : List ℕ) (x i : ℕ) where
@@ -39,38 +39,38 @@ pub no-fraction : (s : List ℕ) (p : ℕ) → p ≡ length s → fractionOf (dr
 unfolding fractionOf
 no-fraction s p q = rw (q, drop-length)
 
-pub some-fraction : (s : List ℕ) (p : ℕ) → p < length s → fractionOf (drop p s) ≡ scaled (7 - (length s - (p + 1))) (digitsOf 7 (drop (p + 1) s))
+pub some-fraction : (s : List ℕ) (p : ℕ) → p < length s → fractionOf (drop p s) ≡ scaled (mostDecimals - (length s - (p + 1))) (digitsOf mostDecimals (drop (p + 1) s))
 unfolding fractionOf
 some-fraction s p l = simp (drop-cons s p 0 l, add-one, length-drop)
 
 module _ (s : List ℕ) (p : ℕ) (point : p ≡ ahead 46 s) where
-  amount-parts : amountOf s ≡ joined (digitsOf 9 (take p s)) (fractionOf (drop p s))
+  amount-parts : amountOf s ≡ joined (digitsOf mostWholes (take p s)) (fractionOf (drop p s))
   unfolding amountOf
   amount-parts = rw point
 
-  pub amount-no : digitsOf 9 (take p s) ≡ No → amountOf s ≡ No
+  pub amount-no : digitsOf mostWholes (take p s) ≡ No → amountOf s ≡ No
   amount-no a = rw (amount-parts, a)
 
-  pub amount-whole : (w : ℕ) → digitsOf 9 (take p s) ≡ Is w → p ≡ length s → amountOf s ≡ Is (w * unit)
+  pub amount-whole : (w : ℕ) → digitsOf mostWholes (take p s) ≡ Is w → p ≡ length s → amountOf s ≡ Is (w * unit)
   amount-whole w a q = rw (amount-parts, a, no-fraction s p q, add-zero)
 
-  pub amount-half : (w : ℕ) → digitsOf 9 (take p s) ≡ Is w → p < length s → digitsOf 7 (drop (p + 1) s) ≡ No → amountOf s ≡ No
+  pub amount-half : (w : ℕ) → digitsOf mostWholes (take p s) ≡ Is w → p < length s → digitsOf mostDecimals (drop (p + 1) s) ≡ No → amountOf s ≡ No
   amount-half w a l b = rw (amount-parts, a, some-fraction s p l, b)
 
-  pub amount-both : (w f : ℕ) → digitsOf 9 (take p s) ≡ Is w → p < length s → digitsOf 7 (drop (p + 1) s) ≡ Is f
-      → amountOf s ≡ Is (w * unit + f * 10 ^ (7 - (length s - (p + 1))))
+  pub amount-both : (w f : ℕ) → digitsOf mostWholes (take p s) ≡ Is w → p < length s → digitsOf mostDecimals (drop (p + 1) s) ≡ Is f
+      → amountOf s ≡ Is (w * unit + f * 10 ^ (mostDecimals - (length s - (p + 1))))
   amount-both w f a l b = rw (amount-parts, a, some-fraction s p l, b)
 
 -- n digits after the point are below a unit, whatever n
-pub scaled-lt : (n f : ℕ) → n ≤ 7 → f < 10 ^ n → f * 10 ^ (7 - n) < unit
+pub scaled-lt : (n f : ℕ) → n ≤ mostDecimals → f < 10 ^ n → f * 10 ^ (mostDecimals - n) < unit
 scaled-lt n f h l =
-    let q : n + (7 - n) ≡ 7 = omega arith in
-    let p : f * 10 ^ (7 - n) < 10 ^ n * 10 ^ (7 - n) = mul-lt-mul-of-pos-right l (one-le-pow (7 - n) 10 (omega arith)) in
-    rw (← pow-add 10 n (7 - n), q) at p
+    let q : n + (mostDecimals - n) ≡ mostDecimals = omega arith in
+    let p : f * 10 ^ (mostDecimals - n) < 10 ^ n * 10 ^ (mostDecimals - n) = mul-lt-mul-of-pos-right l (one-le-pow (mostDecimals - n) 10 (omega arith)) in
+    rw (← pow-add 10 n (mostDecimals - n), q) at p
 
-pub fraction-lt : (s : List ℕ) (p f m : ℕ) → digitsOf 7 (drop (p + 1) s) ≡ Is f → m ≡ 10 ^ (7 - (length s - (p + 1))) → f * m < unit
+pub fraction-lt : (s : List ℕ) (p f m : ℕ) → digitsOf mostDecimals (drop (p + 1) s) ≡ Is f → m ≡ 10 ^ (mostDecimals - (length s - (p + 1))) → f * m < unit
 fraction-lt s p f m a q =
-    let w = digits-width 7 (drop (p + 1) s) a in
+    let w = digits-width mostDecimals (drop (p + 1) s) a in
     let l : length (drop (p + 1) s) ≡ length s - (p + 1) = length-drop (p + 1) s in
     rw (q, ← l) (scaled-lt (length (drop (p + 1) s)) f (w .0) (w .1))
 
@@ -90,25 +90,25 @@ unfolding priceOf
 price-plus [] l h = absurd (omega arith)
 price-plus (b ∷ bs) l h = simp (ne-eqb b 45 h)
 
--- an amount is below 10 ^ 16, and so is a price from 0
-scaled-small : (r : Number) (n v : ℕ) → ((f : ℕ) → r ≡ Is f → (n ≤ 7) × (f < 10 ^ n)) → scaled (7 - n) r ≡ Is v → v < unit
-scaled-small (Is f) n v h q = let a = h f refl in let e : f * 10 ^ (7 - n) ≡ v = cc in omega (arith, scaled-lt n f (a .0) (a .1))
+-- an amount is below `top`, and so is a price from 0
+scaled-small : (r : Number) (n v : ℕ) → ((f : ℕ) → r ≡ Is f → (n ≤ mostDecimals) × (f < 10 ^ n)) → scaled (mostDecimals - n) r ≡ Is v → v < unit
+scaled-small (Is f) n v h q = let a = h f refl in let e : f * 10 ^ (mostDecimals - n) ≡ v = cc in omega (arith, scaled-lt n f (a .0) (a .1))
 scaled-small No n v h q = let z : _≡_ {A = ℕ} 0 1 = cc in absurd (omega arith)
 
 fraction-small : (bs : List ℕ) (v : ℕ) → fractionOf bs ≡ Is v → v < unit
 unfolding fractionOf
 fraction-small [] v q = let e : 0 ≡ v = cc in omega arith
-fraction-small (b ∷ bs) v q = scaled-small (digitsOf 7 bs) (length bs) v (λ f e. digits-width 7 bs e) q
+fraction-small (b ∷ bs) v q = scaled-small (digitsOf mostDecimals bs) (length bs) v (λ f e. digits-width mostDecimals bs e) q
 
-joined-small : (a b : Number) (v : ℕ) → ((f : ℕ) → a ≡ Is f → f < 1000000000) → ((f : ℕ) → b ≡ Is f → f < unit) → joined a b ≡ Is v → v < top
-joined-small (Is a) (Is b) v h k q = let e : a * 10000000 + b ≡ v = cc in omega (arith, h a refl, k b refl)
+joined-small : (a b : Number) (v : ℕ) → ((f : ℕ) → a ≡ Is f → f < 10 ^ mostWholes) → ((f : ℕ) → b ≡ Is f → f < unit) → joined a b ≡ Is v → v < top
+joined-small (Is a) (Is b) v h k q = let e : a * unit + b ≡ v = cc in omega (arith, h a refl, k b refl)
 joined-small (Is a) No v h k q = let z : _≡_ {A = ℕ} 0 1 = cc in absurd (omega arith)
 joined-small No b v h k q = let z : _≡_ {A = ℕ} 0 1 = cc in absurd (omega arith)
 
 pub amount-small : (bs : List ℕ) (v : ℕ) → amountOf bs ≡ Is v → v < top
 unfolding amountOf
 amount-small bs v q =
-    joined-small (digitsOf 9 (take (ahead 46 bs) bs)) (fractionOf (drop (ahead 46 bs) bs)) v (λ f e. below 9 (take (ahead 46 bs) bs) e) (λ f e. fraction-small (drop (ahead 46 bs) bs) f e) q
+    joined-small (digitsOf mostWholes (take (ahead 46 bs) bs)) (fractionOf (drop (ahead 46 bs) bs)) v (λ f e. below mostWholes (take (ahead 46 bs) bs) e) (λ f e. fraction-small (drop (ahead 46 bs) bs) f e) q
 
 abs-neg : (n : ℕ) → natAbs (negℤ (pos n)) ≡ n
 abs-neg zero = refl
@@ -122,7 +122,7 @@ minus-small : (r : Number) (p : ℤ) → ((v : ℕ) → r ≡ Is v → v < top) 
 minus-small (Is n) p h q = let e : negℤ (pos n) ≡ p = cc in rw (← e, abs-neg) (h n refl)
 minus-small No p h q = let z : _≡_ {A = ℕ} 0 1 = cc in absurd (omega arith)
 
--- every price that is read is below 10 ^ 16, and above its negative
+-- every price that is read is below `top`, and above its negative
 pub price-small : (bs : List ℕ) (p : ℤ) → priceOf bs ≡ Priced.Is p → natAbs p < top
 unfolding priceOf
 price-small [] p q = let z : _≡_ {A = ℕ} 0 1 = cc in absurd (omega arith)

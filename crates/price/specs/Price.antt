@@ -10,11 +10,7 @@ use Rattle.digits.specs.Digits.{digitsOf}
 use Rattle.digits.specs.declared.Number.{Number}
 use Rattle.digits.specs.declared.Number.the-variants.{Is, No}
 use Rattle.price.specs.declared.Priced.{Priced}
-pub use Rattle.holding.specs.Prices.{top}
-
--- a price of 1, in ten-millionths
-abbrev pub unit : ℕ
-unit = 10000000
+pub use Rattle.holding.specs.Prices.{mostWholes, mostDecimals, unit, hundredths, top}
 
 -- an optional minus, then an amount
 abbrev pub minus : Number → Priced
@@ -30,23 +26,23 @@ abbrev pub ahead : ℕ → List ℕ → ℕ
 ahead x [] = 0
 ahead x (b ∷ bs) = cond (eqb b x) 0 (ahead x bs + 1)
 
--- nothing, or a point and 1 to 7 digits, in ten-millionths
+-- nothing, or a point and digits, filled up with zeros
 abbrev pub scaled : ℕ → Number → Number
 scaled n (Is b) = Is (b * 10 ^ n)
 scaled n No = No
 
 unfoldable pub fractionOf : List ℕ → Number
 fractionOf [] = Is 0
-fractionOf (point ∷ bs) = scaled (7 - length bs) (digitsOf 7 bs)
+fractionOf (point ∷ bs) = scaled (mostDecimals - length bs) (digitsOf mostDecimals bs)
 
 abbrev pub joined : Number → Number → Number
 joined (Is a) (Is b) = Is (a * unit + b)
 joined (Is a) No = No
 joined No b = No
 
--- 1 to 9 digits up to the point, and what follows
+-- digits up to the point, and what follows
 unfoldable pub amountOf : List ℕ → Number
-amountOf bs = joined (digitsOf 9 (take (ahead 46 bs) bs)) (fractionOf (drop (ahead 46 bs) bs))
+amountOf bs = joined (digitsOf mostWholes (take (ahead 46 bs) bs)) (fractionOf (drop (ahead 46 bs) bs))
 
 unfoldable pub priceOf : List ℕ → Priced
 priceOf [] = Priced.No

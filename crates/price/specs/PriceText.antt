@@ -1,11 +1,11 @@
 -- A price as bytes (document 01, "Quote and writing"): no needless zero, point or minus. Assumes nothing.
-use Prim.Native.Nat.{ℕ, zero, suc, _/_, _%_}
+use Prim.Native.Nat.{ℕ, zero, suc, _+_, _/_, _%_}
 use mathlib.Core.List.{List, [], _∷_, _++_}
 use mathlib.Core.Bool.{cond}
 use lib.Dec.{eqb}
 use lib.IntN.{ℤ, pos, negsuc}
 use Rattle.text.specs.Text.{fixed, decimal}
-use Rattle.price.specs.Price.{unit}
+use Rattle.price.specs.Price.{mostWholes, mostDecimals, unit}
 
 -- k decimals without the zeros at the end
 unfoldable pub decimals : ℕ → ℕ → List ℕ
@@ -14,7 +14,7 @@ decimals (suc k) f = cond (eqb (f % 10) 0) (decimals k (f / 10)) (fixed (suc k) 
 
 -- no point where no decimal follows
 unfoldable pub fractionText : ℕ → List ℕ
-fractionText f = cond (eqb f 0) [] (46 ∷ decimals 7 f)
+fractionText f = cond (eqb f 0) [] (46 ∷ decimals mostDecimals f)
 
 unfoldable pub amountText : ℕ → List ℕ
 amountText m = decimal (m / unit) ++ fractionText (m % unit)
@@ -23,3 +23,7 @@ amountText m = decimal (m / unit) ++ fractionText (m % unit)
 unfoldable pub priceText : ℤ → List ℕ
 priceText (pos n) = amountText n
 priceText (negsuc n) = 45 ∷ amountText (suc n)
+
+-- the bytes of the longest: a minus, digits, a point, digits
+abbrev pub mostText : ℕ
+mostText = 1 + mostWholes + 1 + mostDecimals

@@ -1,12 +1,16 @@
-// Prices: tag 270 read to a signed whole number of ten-millionths and written again without a needless zero, point or
+// Prices: tag 270 read to a signed whole number of units of the last decimal and written again without a needless zero, point or
 // minus (document 01, "Fields" 270 and "Quote and writing").
 use digits::Number;
+use holding::DECIMALS;
+use holding::TENS;
+use holding::UNIT;
+use holding::WHOLES;
 ghost use mathlib.Core.Path.{_≡_};
 ghost use Prim.Native.Nat.{_+_, _-_, _*_, _^_, _≤_, _<_};
 ghost use lib.ListN.{length};
 ghost use lib.IntN.{pos, negℤ, natAbs};
 ghost use Rattle.text.specs.Text.{Wrote};
-ghost use Rattle.price.specs.Price.{unit, top, ahead, amountOf, priceOf};
+ghost use Rattle.price.specs.Price.{mostDecimals, unit, top, ahead, amountOf, priceOf};
 ghost use Rattle.price.specs.PriceText.{decimals, amountText, priceText};
 
 // A price that was read, or none.
@@ -14,9 +18,6 @@ pub enum Priced {
     Is(i64),
     No,
 }
-
-// A price of 1, in ten-millionths.
-const UNIT: u64 = 10000000;
 
 // How many bytes stand before the first x.
 fn find(text: &[u8], x: u8) -> usize
@@ -33,37 +34,28 @@ fn find(text: &[u8], x: u8) -> usize
     n
 }
 
-// Ten to the number of decimals that are missing of seven.
+// Ten to the number of decimals that are missing.
 fn scale(n: usize) -> u64
-    requires { ⌜ n ≤ 7 ⌝ }
-    ensures { λ r. ⌜ r ≡ 10 ^ (7 - n) ⌝ }
+    requires { ⌜ n ≤ mostDecimals ⌝ }
+    ensures { λ r. ⌜ r ≡ 10 ^ (mostDecimals - n) ⌝ }
 {
-    match n {
-        0 => 10000000,
-        1 => 1000000,
-        2 => 100000,
-        3 => 10000,
-        4 => 1000,
-        5 => 100,
-        6 => 10,
-        _ => 1,
-    }
+    TENS[DECIMALS - n]
 }
 
-// Without its sign: 1 to 9 digits, then nothing or a point and 1 to 7 digits.
+// Without its sign: digits, then nothing or a point and digits.
 fn amount(text: &[u8]) -> Number
     ensures { λ r. ⌜ r ≡ amountOf (now (text .entry)) ⌝ }
 {
     let n = text.len();
     let p = find(text, 46);
-    let Number::Is(w) = digits::digits(&text[..p], 9) else {
+    let Number::Is(w) = digits::digits(&text[..p], WHOLES) else {
         return Number::No;
     };
     if p == n {
         return Number::Is(w * UNIT);
     }
     let q = p + 1;
-    let Number::Is(f) = digits::digits(&text[q..], 7) else {
+    let Number::Is(f) = digits::digits(&text[q..], DECIMALS) else {
         return Number::No;
     };
     Number::Is(w * UNIT + f * scale(n - q))
@@ -104,12 +96,12 @@ pub fn read(text: &[u8]) -> Priced
     Priced::Is(above(n))
 }
 
-// Seven decimals without the zeros at the end.
+// The decimals without the zeros at the end.
 fn put_decimals(out: &mut [u8], at: usize, f: u64) -> usize
     requires { ⌜ (at < 2 ^ 31) × (0 < f) × (f < unit) ⌝ }
-    ensures { λ r. ⌜ Wrote (now (out .entry)) at (decimals 7 f) (now (out .exit)) r × (r ≤ at + 7) ⌝ }
+    ensures { λ r. ⌜ Wrote (now (out .entry)) at (decimals mostDecimals f) (now (out .exit)) r × (r ≤ at + mostDecimals) ⌝ }
 {
-    let mut k: usize = 7;
+    let mut k = DECIMALS;
     let mut m = f;
     while m % 10 == 0 {
         m /= 10;
@@ -120,7 +112,7 @@ fn put_decimals(out: &mut [u8], at: usize, f: u64) -> usize
 
 fn put_amount(out: &mut [u8], at: usize, m: u64) -> usize
     requires { ⌜ (at < 2 ^ 30) × (m < top) ⌝ }
-    ensures { λ r. ⌜ Wrote (now (out .entry)) at (amountText m) (now (out .exit)) r × (r ≤ at + 26) ⌝ }
+    ensures { λ r. ⌜ Wrote (now (out .entry)) at (amountText m) (now (out .exit)) r × (r ≤ at + 19 + mostDecimals) ⌝ }
 {
     let b = text::put_decimal(out, at, m / UNIT);
     let f = m % UNIT;
@@ -144,7 +136,7 @@ fn magnitude(p: i64) -> u64
 // A price, shortest form.
 pub fn put(out: &mut [u8], at: usize, p: i64) -> usize
     requires { ⌜ (at < 2 ^ 29) × (natAbs p < top) ⌝ }
-    ensures { λ r. ⌜ Wrote (now (out .entry)) at (priceText p) (now (out .exit)) r × (r ≤ at + 27) ⌝ }
+    ensures { λ r. ⌜ Wrote (now (out .entry)) at (priceText p) (now (out .exit)) r × (r ≤ at + 20 + mostDecimals) ⌝ }
 {
     let m = magnitude(p);
     if p < 0 {

@@ -1,8 +1,9 @@
 -- Lots computed: sides with so many units at a price, place 1 first.
 use mathlib.Core.Path.{_≡_}
 use mathlib.Core.List.{[], _∷_}
-use Prim.Native.Nat.{ℕ}
+use Prim.Native.Nat.{ℕ, _-_}
 use lib.IntN.{ℤ, pos, negsuc}
+use Rattle.holding.specs.Prices.{top}
 use Rattle.book.specs.declared.Entry.{Entry}
 use Rattle.book.specs.Cases.{fourBids}
 use Rattle.proceeds.specs.declared.Lot.{Lot}
@@ -15,8 +16,9 @@ abbrev pub brings : ℤ → ℕ → Lot
 brings sum left = Lot.Is (record { sum = sum; left = left })
 
 pub record LotCases : Type 0 where
-  -- two places and a part of the third: the bids that source document 000 draws in section 9.1, at 10.58, 10.58, 10.57 and 10.54
-  pub cut : lotOf 10000 fourBids ≡ brings (pos 1057900000000) 0
+  -- two places and a part of the third: the bids that source document 000 draws in section 9.1, at 10.58, 10.58, 10.57 and 10.54,
+  -- in hundredths
+  pub cut : lotOf 10000 fourBids ≡ brings (pos 10579000) 0
   -- a side that is used up, the second price below 0; and an empty one
   pub short : lotOf 10 (of 4 (pos 7) ∷ of 5 (negsuc 1) ∷ []) ≡ brings (pos 18) 1
   pub none : lotOf 10 [] ≡ brings (pos 0) 10
@@ -31,4 +33,4 @@ pub record LotCases : Type 0 where
   -- a partial sum that does not fit, where the whole one would
   pub partial : lotOf 536870913 (of 536870912 (pos 17179869184) ∷ of 1 (negsuc 0) ∷ []) ≡ Lot.Over
   -- the largest product of a price that fits tag 270 and a quantity
-  pub largest : lotOf 999999999 (of 999999999 (pos 9999999999999999) ∷ []) ≡ Lot.Over
+  pub largest : lotOf 999999999 (of 999999999 (pos (top - 1)) ∷ []) ≡ Lot.Over

@@ -4,7 +4,7 @@ use mathlib.Core.Bool.{Bool, true, false, cond}
 use mathlib.Core.List.{List, [], _∷_, _++_}
 use Prim.Native.Nat.{ℕ, _≤_}
 use native.Mathlib.Omega.{arith}
-use lib.IntN.{ℤ, pos}
+use lib.IntN.{ℤ}
 use lib.ListN.{length, take}
 use lib.Seq.{sets}
 use borrow.Author.Tests.{le-leb}
@@ -35,6 +35,7 @@ use Rattle.quote.specs.Quotes.{given, quoteOf, ifQuoted}
 use Rattle.quote.specs.declared.Top.{Top}
 use Rattle.quote.specs.declared.Quote.{Quote}
 use Rattle.quote.specs.declared.Quoted.{Quoted}
+use Rattle.price.specs.Price.{hundredths}
 use Rattle.ask.specs.Ask.{bitsOf, momentWords, topWords, quoteWords, quoteSize, quoteNumber, quoteAnswer, quoteOut}
 use Rattle.backing.specs.Backing.{quotedOf, sideFor, behind}
 use Rattle.lots.specs.declared.Sold.{Sold}
@@ -219,7 +220,7 @@ hut-quote = refl
 
 -- what 6 units bring and cost
 abbrev hut-sum : Bool → ℤ
-hut-sum buying = cond buying (pos 1443000000) (pos 1201000000)
+hut-sum buying = cond buying (hundredths 14430) (hundredths 12010)
 
 abbrev hut-left : Bool → ℕ
 hut-left buying = cond buying 0 1
@@ -247,7 +248,6 @@ module _ (xs room : List ℕ) (e : openAnswer 0 ours xs ≡ 0) (l : lotSize ≤ 
   hut-out = rw (hut-answer, hut-lotted) (ap (λ (m : List ℕ). sets room 0 (3 ∷ m ++ (bitsOf (hut-sum buying) ∷ hut-left buying ∷ []))) heard-words)
 
 pub hut-deals : HutDeals
-unfolding bitsOf
 hut-deals xs room e l = (
   record { answer = hut-answer xs room e l false; out = hut-out xs room e l false },
   record { answer = hut-answer xs room e l true; out = hut-out xs room e l true },

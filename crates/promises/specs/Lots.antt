@@ -6,12 +6,13 @@ use mathlib.Core.List.{List, [], _∷_}
 use Prim.Native.Nat.{ℕ, suc, _≤_}
 use lib.ListN.{length, take}
 use lib.Seq.{sets}
+use Rattle.price.specs.Price.{hundredths}
 use Rattle.book.specs.Rules.{Lists}
 use Rattle.sums.specs.Sums.{fits}
 use Rattle.proceeds.specs.Lots.{leftOf, sumOver, sumAfter}
 use Rattle.board.specs.Demand.{NumberedFromOne, NeverBreaks}
 use Rattle.opening.specs.Opening.{openAnswer, openStore}
-use Rattle.ask.specs.Ask.{quoteSize, quoteAnswer, quoteOut}
+use Rattle.ask.specs.Ask.{bitsOf, quoteSize, quoteAnswer, quoteOut}
 use Rattle.backing.specs.Backing.{sideFor}
 use Rattle.lots.specs.Rooms.{lotSize, soldWords, lotAnswer, lotOut}
 use Rattle.promises.specs.Acts.{Act, lefts, Along}
@@ -86,5 +87,5 @@ pub record Deals (buying : Bool) (room xs numbers : List ℕ) : Type 0 where
 abbrev pub HutDeals : Type 0
 HutDeals =
     (xs room : List ℕ) → openAnswer 0 ours xs ≡ 0 → lotSize ≤ length room
-    → Deals false room (lefts received (openStore 0 ours xs)) (3 ∷ 20250103 ∷ 130002000 ∷ 1201000000 ∷ 1 ∷ [])
-    × Deals true room (lefts received (openStore 0 ours xs)) (3 ∷ 20250103 ∷ 130002000 ∷ 1443000000 ∷ 0 ∷ [])
+    → Deals false room (lefts received (openStore 0 ours xs)) (3 ∷ 20250103 ∷ 130002000 ∷ bitsOf (hundredths 12010) ∷ 1 ∷ [])
+    × Deals true room (lefts received (openStore 0 ours xs)) (3 ∷ 20250103 ∷ 130002000 ∷ bitsOf (hundredths 14430) ∷ 0 ∷ [])

@@ -23,7 +23,7 @@ use Rattle.opening.specs.Opening.{openAnswer, openStore}
 use Rattle.feed.specs.Feeding.{fed, feedStore}
 use Rattle.ask.specs.Ask.{quoteSize, quoteAnswer}
 use Rattle.send.specs.Send.{sendOut}
-use Rattle.samples.specs.Messages.{empty-book, point-alone, eight-decimals, first, second, third, at-1, at-2, at-4}
+use Rattle.samples.specs.Messages.{empty-book, point-alone, too-many-decimals, first, second, third, at-1, at-2, at-4}
 use Rattle.samples.specs.Says.{bid-2, offer-3}
 
 -- M11: a fresh channel that follows 7, and what three messages leave of it.
@@ -79,9 +79,9 @@ pub record MarkedCases : Type 0 where
   pub m3 : priceOf (45 ∷ 48 ∷ []) ≡ Priced.Is (pos 0)
   -- 1. and 8 decimals refused, alone and in a message
   pub m4-point : priceOf (49 ∷ 46 ∷ []) ≡ Priced.No
-  pub m4-eight : priceOf (49 ∷ 46 ∷ 49 ∷ 50 ∷ 51 ∷ 52 ∷ 53 ∷ 54 ∷ 55 ∷ 56 ∷ []) ≡ Priced.No
+  pub m4-many : priceOf (49 ∷ 46 ∷ 49 ∷ 50 ∷ 51 ∷ 52 ∷ 53 ∷ 54 ∷ 55 ∷ 56 ∷ []) ≡ Priced.No
   pub m4-point-read : messageIn 0 point-alone ≡ refused BadFields
-  pub m4-eight-read : messageIn 0 eight-decimals ≡ refused BadFields
+  pub m4-many-read : messageIn 0 too-many-decimals ≡ refused BadFields
   -- 20240229 good, 20250229 and 19000229 not
   pub m5-good : dateOf (50 ∷ 48 ∷ 50 ∷ 52 ∷ 48 ∷ 50 ∷ 50 ∷ 57 ∷ []) ≡ Number.Is 739310
   pub m5-2025 : dateOf (50 ∷ 48 ∷ 50 ∷ 53 ∷ 48 ∷ 50 ∷ 50 ∷ 57 ∷ []) ≡ Number.No

@@ -2,11 +2,12 @@
 use mathlib.Core.Path.{_≡_, refl}
 use mathlib.Core.Bool.{true}
 use mathlib.Core.List.{[], _∷_}
-use Prim.Native.Nat.{ℕ, zero, suc}
+use Prim.Native.Nat.{ℕ, zero, suc, _-_}
 use native.Mathlib.Omega.{arith}
 use lib.IntN.{negsuc}
 use lib.ListN.{length, replicate}
 use Rattle.text.specs.Text.{fixed, widthTo, widthOf, decimal}
+use Rattle.price.specs.Price as price
 use Rattle.price.specs.PriceText.{decimals, fractionText, amountText, priceText}
 use Rattle.moment.specs.Moments.{dateText, clockText, timeText, momentText}
 use Rattle.orderid.specs.OrderIds.{isId, wordText, idText, top}
@@ -20,7 +21,7 @@ use Rattle.book.specs.declared.Entry.{Entry}
 use Rattle.board.specs.Ranges.{entryFine}
 use Rattle.board.specs.Sound.{SoundSide}
 use Rattle.snapshot.specs.Snapshot.{Letter, sideFields, snapshotFields, snapshotBytes}
-use Rattle.roundtrip.specs.ReadBack.{InRange, BothReached}
+use Rattle.roundtrip.specs.ReadBack.{InRange, leastBytes, mostBytes, BothReached}
 
 -- ---- an empty book, and every number one digit
 abbrev short : Letter
@@ -46,13 +47,13 @@ short-in =
       offers = nothing;
     }
 
-pub least : length (snapshotBytes 0 short 1 0 empty) ≡ 104
+pub least : length (snapshotBytes 0 short 1 0 empty) ≡ leastBytes
 unfolding snapshotBytes snapshotFields sideFields framed bytesOf fieldBytes decimal widthOf widthTo fixed momentText dateText timeText clockText
 least = refl
 
 -- ---- a full book of the longest entries, and every number and name as long as it may be
 abbrev wide : Entry
-wide = record { price = negsuc 9999999999999998; size = 999999999999; by = top; more = top; moment = 0 }
+wide = record { price = negsuc (price.top - 2); size = 999999999999; by = top; more = top; moment = 0 }
 
 abbrev full : Lists
 full = record { bids = replicate 20 wide; offers = replicate 20 wide }
@@ -88,7 +89,7 @@ long-in =
       offers = twenty;
     }
 
-pub most : length (snapshotBytes 0 long mostId mostNumber full) ≡ 4267
+pub most : length (snapshotBytes 0 long mostId mostNumber full) ≡ mostBytes
 unfolding snapshotBytes snapshotFields sideFields framed bytesOf fieldBytes decimal widthOf widthTo fixed priceText amountText fractionText decimals idText wordText momentText dateText timeText clockText
 most = refl
 

@@ -1,4 +1,4 @@
--- A snapshot has 104 to 4,267 bytes, and its fields are fair. Assumes nothing.
+-- A snapshot has `leastBytes` to `mostBytes` bytes, and its fields are fair. Assumes nothing.
 use mathlib.Core.Path.{_≡_, refl}
 use mathlib.Core.Bool.{Bool, true, false}
 use mathlib.Core.List.{List, [], _∷_}
@@ -9,6 +9,7 @@ use lib.Dec.{ltb, eqb}
 use lib.ListN.{length, length-append}
 use Rattle.text.specs.Text.{widthOf, decimal}
 use Rattle.text.proofs.Written.{width-in, width-more}
+use Rattle.price.specs.PriceText.{mostText}
 use Rattle.moment.specs.Moments.{dayPart, timePart}
 use Rattle.chain.specs.Fields.{Field}
 use Rattle.chain.specs.Bytes.{bytesOf, allFair}
@@ -38,9 +39,13 @@ by-run false e b fs h r =
     let x = tag-of-3 346 (omega arith) (omega arith) (text-decimal 5 (e .by) (omega arith) (omega arith) (omega (arith, h .high))) r in
     record { fair = x .fair; least = omega arith; most = omega (arith, x .most) }
 
+-- an entry but for the digits of its place
+abbrev mostEntry : ℕ
+mostEntry = 83 + mostText
+
 -- a place of w digits
 entry-run : (depth sort place : ℕ) (e : Entry) (w : ℕ) → eqb sort 1 ≡ false → Fine depth e → 1 ≤ w → w ≤ 18 → place < 10 ^ w
-    → Run 0 (101 + w) (entryFields depth sort place e)
+    → Run 0 (mostEntry + w) (entryFields depth sort place e)
 entry-run depth sort place e w s f l h q =
     let p = tag-of-3 290 (omega arith) (omega arith) (text-decimal w place l h q) no-field in
     let t = tag-of-3 273 (omega arith) (omega arith) (text-time (timePart (e .moment))) p in
@@ -52,16 +57,19 @@ entry-run depth sort place e w s f l h q =
     record { fair = x .fair; least = omega arith; most = omega (arith, x .most) }
 
 -- ---- a side: the places below 10 have one digit
+abbrev mostSide : ℕ
+mostSide = (mostEntry + 2) * 20 - 9
+
 pub record Side (depth sort place : ℕ) (es : List Entry) : Type 0 where
   pub fair : allFair (sideFields depth sort place es) ≡ true
-  pub most : length (bytesOf (sideFields depth sort place es)) + min (length es) (10 - place) ≤ 103 * length es
+  pub most : length (bytesOf (sideFields depth sort place es)) + min (length es) (10 - place) ≤ (mostEntry + 2) * length es
 
 side-run : (depth sort place : ℕ) (es : List Entry) → eqb sort 1 ≡ false → All (λ e. entryFine depth e ≡ true) es → place + length es ≤ 100
     → Side depth sort place es
 unfolding sideFields bytesOf
 side-run depth sort place [] s h l = record { fair = refl; most = none }
   where
-    none : length (bytesOf []) + min 0 (10 - place) ≤ 103 * 0
+    none : length (bytesOf []) + min 0 (10 - place) ≤ (mostEntry + 2) * 0
     none = omega arith
 side-run depth sort place (e ∷ es) s h l = go (ltb place 10) refl (fine-is depth e (h .0)) (side-run depth sort (place + 1) es s (h .1) (omega arith))
   where
@@ -82,7 +90,7 @@ side-run depth sort place (e ∷ es) s h l = go (ltb place 10) refl (fine-is dep
         }
 
 side-all : (depth sort : ℕ) (es : List Entry) → eqb sort 1 ≡ false → All (λ e. entryFine depth e ≡ true) es → length es ≤ 20
-    → Run 0 2051 (sideFields depth sort 1 es)
+    → Run 0 mostSide (sideFields depth sort 1 es)
 side-all depth sort es s h l =
     let x = side-run depth sort 1 es s h (omega arith) in
     record { fair = x .fair; least = omega arith; most = omega (arith, x .most) }
@@ -110,7 +118,7 @@ module _ (depth : ℕ) (l : Letter) (who H : ℕ) (b : Lists) (r : InRange depth
       text-bvmf = record { some = omega arith; least = omega arith; most = omega arith; free = refl }
 
   -- all of it from 35 up to 10
-  pub fields-run : Run 82 4243 (snapshotFields depth l who H b)
+  pub fields-run : Run 82 (141 + (mostSide + mostSide)) (snapshotFields depth l who H b)
   unfolding snapshotFields
   fields-run =
       runs head-run (runs (side-all depth 48 (b .bids) refl (r .bids .entries) (r .bids .room)) (side-all depth 49 (b .offers) refl (r .offers .entries) (r .offers .room)))

@@ -2,7 +2,7 @@
 use mathlib.Core.Path.{_≡_, refl}
 use mathlib.Core.Bool.{Bool, true, false, cond}
 use mathlib.Core.List.{List, [], _∷_}
-use Prim.Native.Nat.{ℕ, suc, _/_, _%_, _^_, _≤_, _<_}
+use Prim.Native.Nat.{ℕ, suc, _+_, _/_, _%_, _^_, _≤_, _<_}
 use native.Mathlib.Omega.{arith}
 use borrow.Author.Tests.{eqb-false}
 use lib.Dec.{eqb}
@@ -10,8 +10,8 @@ use lib.IntN.{ℤ, pos, negsuc, natAbs}
 use lib.ListN.{length, take, drop, length-append}
 use Rattle.text.specs.Text.{widthOf, decimal, free}
 use Rattle.text.proofs.Written.{length-decimal, width-pos, width-in, digits-decimal}
-use Rattle.price.specs.Price.{top}
-use Rattle.price.specs.PriceText.{decimals, fractionText, amountText, priceText}
+use Rattle.price.specs.Price.{mostWholes, mostDecimals, unit, top}
+use Rattle.price.specs.PriceText.{decimals, fractionText, amountText, priceText, mostText}
 use Rattle.price.proofs.Back.{digits-free, kept}
 use Rattle.moment.specs.Moments.{dateText, timeText, momentText}
 use Rattle.moment.proofs.Texts.{length-date, length-time, length-moment, date-free, time-free, moment-free}
@@ -38,31 +38,31 @@ text-decimal w n p q h =
     }
 
 -- ---- a price
-fraction : (f : ℕ) → f < 10000000 → (length (fractionText f) ≤ 8) × (free 1 (fractionText f) ≡ true)
+fraction : (f : ℕ) → f < unit → (length (fractionText f) ≤ 1 + mostDecimals) × (free 1 (fractionText f) ≡ true)
 unfolding fractionText
 fraction f h = go (eqb f 0) refl
   where
-    go : (t : Bool) → eqb f 0 ≡ t → (length (cond t [] (46 ∷ decimals 7 f)) ≤ 8) × (free 1 (cond t [] (46 ∷ decimals 7 f)) ≡ true)
+    go : (t : Bool) → eqb f 0 ≡ t → (length (cond t [] (46 ∷ decimals mostDecimals f)) ≤ 1 + mostDecimals) × (free 1 (cond t [] (46 ∷ decimals mostDecimals f)) ≡ true)
     go true e = (omega arith, refl)
     go false e =
         let n = eqb-false f 0 e in
         let some : 0 < f = omega arith in
-        let k = kept 7 f some h in
-        (omega (arith, k .most), digits-free 1 (decimals 7 f) refl (k .digits))
+        let k = kept mostDecimals f some h in
+        (omega (arith, k .most), digits-free 1 (decimals mostDecimals f) refl (k .digits))
 
-text-amount : (m : ℕ) → m < top → Text 1 17 (amountText m)
+text-amount : (m : ℕ) → m < top → Text 1 (mostWholes + 1 + mostDecimals) (amountText m)
 unfolding amountText
 text-amount m h =
-    let a = text-decimal 9 (m / 10000000) (omega arith) (omega arith) (omega arith) in
-    let b = fraction (m % 10000000) (omega arith) in
+    let a = text-decimal mostWholes (m / unit) (omega arith) (omega arith) (omega arith) in
+    let b = fraction (m % unit) (omega arith) in
     record {
       some = rw length-append (omega (arith, a .some));
       least = rw length-append (omega (arith, a .some));
       most = rw length-append (omega (arith, a .most, b .0));
-      free = free-append 1 (decimal (m / 10000000)) (fractionText (m % 10000000)) (a .free) (b .1);
+      free = free-append 1 (decimal (m / unit)) (fractionText (m % unit)) (a .free) (b .1);
     }
 
-pub text-price : (p : ℤ) → natAbs p < top → Text 1 18 (priceText p)
+pub text-price : (p : ℤ) → natAbs p < top → Text 1 mostText (priceText p)
 unfolding priceText
 text-price (pos n) h = let a = text-amount n h in record { some = a .some; least = a .least; most = omega (arith, a .most); free = a .free }
 text-price (negsuc n) h = let a = text-amount (suc n) h in record { some = omega arith; least = omega arith; most = omega (arith, a .most); free = a .free }

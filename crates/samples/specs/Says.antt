@@ -1,19 +1,19 @@
 -- What the messages say.
 use mathlib.Core.List.{[], _∷_}
 use Prim.Native.Nat.{ℕ}
-use lib.IntN.{pos}
+use Rattle.price.specs.Price.{hundredths}
 use Rattle.book.specs.declared.Entry.{Entry}
 use Rattle.message.specs.Message.{Message, numbered, snapshot}
 
 -- The bid of message 1 (24.01 for 5), the bid that message 2 changes it to (24.02), and the offer of message 3 (24.05 for 7).
 abbrev pub bid-1 : Entry
-bid-1 = record { price = pos 240100000; size = 5; by = 3119; more = 0; moment = 64968180540000 }
+bid-1 = record { price = hundredths 2401; size = 5; by = 3119; more = 0; moment = 64968180540000 }
 
 abbrev pub bid-2 : Entry
-bid-2 = record { price = pos 240200000; size = 5; by = 3119; more = 0; moment = 64968180541000 }
+bid-2 = record { price = hundredths 2402; size = 5; by = 3119; more = 0; moment = 64968180541000 }
 
 abbrev pub offer-3 : Entry
-offer-3 = record { price = pos 240500000; size = 7; by = 3214; more = 0; moment = 64968180542000 }
+offer-3 = record { price = hundredths 2405; size = 7; by = 3214; more = 0; moment = 64968180542000 }
 
 -- Message 1 makes the bid, message 2 changes it, message 3 makes the offer.
 abbrev pub first-says : Message
@@ -38,7 +38,7 @@ two-says = snapshot (record { number = 2; heard = 64968180540000; id = 11; last 
 
 -- Message 4 makes a bid of 9 (0.95 for 6).
 abbrev pub bid-4 : Entry
-bid-4 = record { price = pos 9500000; size = 6; by = 3307; more = 0; moment = 64968180543000 }
+bid-4 = record { price = hundredths 95; size = 6; by = 3307; more = 0; moment = 64968180543000 }
 
 abbrev pub fourth-says : Message
 fourth-says = numbered 4 64968180543000 (record { who = 9; what = 0; action = 0; place = 1; entry = bid-4 } ∷ [])

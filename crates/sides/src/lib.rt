@@ -6,9 +6,6 @@ ghost use lib.Dec.{eqb};
 ghost use lib.ListN.{length};
 ghost use Rattle.sides.specs.Side.{each, allZero, moreTo, entryScan, sideScan, roomOf};
 
-// 270, as the number that holds it.
-pub const MOST_PRICE: u64 = 19999999999999998;
-
 // 271.
 pub const MOST_SIZE: u64 = 999999999999;
 
@@ -77,7 +74,7 @@ pub fn entry(store: &[u64], at: usize, most: u64, full: u64) -> bool
     requires { ⌜ at + 5 ≤ length (now store) ⌝ }
     ensures { λ r. ⌜ r ≡ entryScan most full (now (store .entry)) at ⌝ }
 {
-    if MOST_PRICE < store[at] {
+    if holding::MOST_PRICE < store[at] {
         return false;
     }
     let size = store[at + 1];

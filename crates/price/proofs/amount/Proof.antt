@@ -7,6 +7,7 @@ use lib.ListN.{drop, length-drop}
 use lib.Seq.{length-take-le}
 use Rattle.digits.specs.Digits.{digitsOf}
 use Rattle.digits.proofs.Width.{below, digits-width}
+use Rattle.price.specs.Price.{mostWholes, mostDecimals}
 use Rattle.price.proofs.Parts.{amount-no, amount-whole, amount-half, amount-both, fraction-lt, tail}
 use Rattle.price.proofs.amount.Statement.{statement}
 use Rattle.price.proofs.amount.Tie as tie
@@ -30,7 +31,7 @@ returns : tie.Need-returns
 returns c = sym (amount-no (c .before .before .before .before .before .before .args .text .now) (c .before .before .before .before .find .result) (c .before .before .before .before .find .ensures .0) (sym (c .before .before .digits .ensures) ∙ c .enum-told .given .1))
 
 mul-t11 : tie.Need-mul-t11
-mul-t11 c = omega (arith, below 9 _ (sym (c .before .before .before .before .digits .ensures) ∙ c .before .before .w .given .1))
+mul-t11 c = omega (arith, below mostWholes _ (sym (c .before .before .before .before .digits .ensures) ∙ c .before .before .w .given .1))
 
 returns-2 : tie.Need-returns-2
 returns-2 c = sym (amount-whole (c .before .before .before .before .before .before .before .before .args .text .now) (c .before .before .before .before .before .before .find .result) (c .before .before .before .before .before .before .find .ensures .0) _ (sym (c .before .before .before .before .digits .ensures) ∙ c .before .before .w .given .1) (c .if1 .taken))
@@ -60,11 +61,11 @@ returns-3 : tie.Need-returns-3
 returns-3 c =
     let s = c .before .before .before .before .before .before .before .before .before .before .before .before .args .text .now in
     let p = c .before .before .before .before .before .before .before .before .before .before .find in
-    let d : c .before .before .digits2 .result ≡ digitsOf 7 (drop (p .result + 1) s) = rw (tail s (p .result + 1)) at (c .before .before .digits2 .ensures) in
+    let d : c .before .before .digits2 .result ≡ digitsOf mostDecimals (drop (p .result + 1) s) = rw (tail s (p .result + 1)) at (c .before .before .digits2 .ensures) in
     sym (amount-half s (p .result) (p .ensures .0) _ (sym (c .before .before .before .before .before .before .before .before .digits .ensures) ∙ c .before .before .before .before .before .before .w .given .1) (omega arith) (sym d ∙ c .enum-told2 .given .1))
 
 mul-t17 : tie.Need-mul-t17
-mul-t17 c = omega (arith, below 9 _ (sym (c .before .before .before .before .before .before .before .before .before .digits .ensures) ∙ c .before .before .before .before .before .before .before .w .given .1))
+mul-t17 c = omega (arith, below mostWholes _ (sym (c .before .before .before .before .before .before .before .before .before .digits .ensures) ∙ c .before .before .before .before .before .before .before .w .given .1))
 
 sub-scale : tie.Need-sub-scale
 sub-scale c = search needs
@@ -73,7 +74,7 @@ scale-requires : tie.Need-scale-requires
 scale-requires c κs =
     let s = c .before .before .before .before .before .before .before .before .before .before .before .before .before .args .text .now in
     let q = c .before .before .before .before .before .before .before .before .before .before .before .find .result + 1 in
-    omega (arith, digits-width 7 (drop q s) (sym (rw (tail s q) at (c .before .before .before .digits2 .ensures)) ∙ c .before .f .given .1) .0, length-drop q s)
+    omega (arith, digits-width mostDecimals (drop q s) (sym (rw (tail s q) at (c .before .before .before .digits2 .ensures)) ∙ c .before .f .given .1) .0, length-drop q s)
 
 mul-t19 : tie.Need-mul-t19
 mul-t19 c =
@@ -85,7 +86,7 @@ add-t20 : tie.Need-add-t20
 add-t20 c =
     let s = c .before .before .before .before .before .before .before .before .before .before .before .before .before .before .args .text .now in
     let p = c .before .before .before .before .before .before .before .before .before .before .before .before .find .result in
-    omega (arith, fraction-lt s p _ (c .scale .result) (sym (rw (tail s (p + 1)) at (c .before .before .before .before .digits2 .ensures)) ∙ c .before .before .f .given .1) (c .scale .ensures), below 9 _ (sym (c .before .before .before .before .before .before .before .before .before .before .digits .ensures) ∙ c .before .before .before .before .before .before .before .before .w .given .1))
+    omega (arith, fraction-lt s p _ (c .scale .result) (sym (rw (tail s (p + 1)) at (c .before .before .before .before .digits2 .ensures)) ∙ c .before .before .f .given .1) (c .scale .ensures), below mostWholes _ (sym (c .before .before .before .before .before .before .before .before .before .before .digits .ensures) ∙ c .before .before .before .before .before .before .before .before .w .given .1))
 
 returns-4 : tie.Need-returns-4
 returns-4 c =

@@ -4,6 +4,7 @@ use Prim.Native.Nat.{_-_, _≤_, _<_, _^_}
 use native.Mathlib.Omega.{arith}
 use lib.ListN.{length}
 use Rattle.text.specs.Text.{fixed}
+use Rattle.price.specs.Price.{mostDecimals}
 use Rattle.price.specs.PriceText.{decimals}
 use Rattle.text.proofs.Written.{length-fixed}
 use Rattle.price.proofs.Back.{decimals-any, decimals-stop, decimals-more, pow-less}
@@ -12,7 +13,7 @@ use Rattle.price.proofs.put_decimals.Statement.{statement}
 use Rattle.price.proofs.put_decimals.Tie as tie
 
 abbrev Inv-loop : tie.InvT-loop
-Inv-loop out at f k₀ m₀ k m = (0 < m) × (m < 10 ^ k) × (k ≤ 7) × (decimals 7 f ≡ decimals k m)
+Inv-loop out at f k₀ m₀ k m = (0 < m) × (m < 10 ^ k) × (k ≤ mostDecimals) × (decimals mostDecimals f ≡ decimals k m)
 
 abbrev μ-loop : tie.MeasureT-loop
 μ-loop out at f k₀ m₀ k m = k
@@ -43,7 +44,7 @@ returns c =
     let l = c .before .before .before .before .before .loop in
     let e = c .before .before .put-fixed .ensures .0 in
     let z : 0 < l .k = decimals-any (l .k) (l .m) (l .inv .0) (l .inv .1) in
-    let q : decimals 7 (c .before .before .before .before .before .before .before .args .f) ≡ fixed (l .k) (l .m) = l .inv .3 ∙ decimals-stop (l .k) (l .m) z (c .before .before .before .before .loop-test .left) in
+    let q : decimals mostDecimals (c .before .before .before .before .before .before .before .args .f) ≡ fixed (l .k) (l .m) = l .inv .3 ∙ decimals-stop (l .k) (l .m) z (c .before .before .before .before .loop-test .left) in
     (rw q e, omega (arith, e .next, length-fixed (l .k) (l .m)))
 
 pub put-decimals-spec : {M : Type 1} → statement M
