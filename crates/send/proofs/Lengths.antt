@@ -10,7 +10,7 @@ use lib.IntN.{ℤ, pos, negsuc}
 use lib.ListN.{length, length-append}
 use Rattle.text.specs.Text.{fixed, widthTo, widthOf, decimal}
 use Rattle.text.proofs.Written.{length-fixed, length-decimal}
-use Rattle.price.specs.Price.{unit}
+use Rattle.price.specs.Price.{mostDecimals, unit}
 use Rattle.price.specs.PriceText.{decimals, fractionText, amountText, priceText}
 use Rattle.moment.specs.Moments.{dayPart, timePart}
 use Rattle.moment.proofs.Texts.{length-date, length-time, length-moment}
@@ -51,19 +51,19 @@ decimals-most (suc k) f = go (eqb (f % 10) 0) (decimals-most k (f / 10))
     go true h = omega arith
     go false h = omega (arith, length-fixed (suc k) f)
 
-fraction-most : (f : ℕ) → length (fractionText f) ≤ 8
+fraction-most : (f : ℕ) → length (fractionText f) ≤ 1 + mostDecimals
 unfolding fractionText
 fraction-most f = go (eqb f 0)
   where
-    go : (t : Bool) → length (cond t [] (46 ∷ decimals 7 f)) ≤ 8
+    go : (t : Bool) → length (cond t [] (46 ∷ decimals mostDecimals f)) ≤ 1 + mostDecimals
     go true = omega arith
-    go false = omega (arith, decimals-most 7 f)
+    go false = omega (arith, decimals-most mostDecimals f)
 
-amount-most : (m : ℕ) → length (amountText m) ≤ 26
+amount-most : (m : ℕ) → length (amountText m) ≤ 19 + mostDecimals
 unfolding amountText
 amount-most m = omega (arith, length-append (decimal (m / unit)) (fractionText (m % unit)), decimal-most (m / unit), fraction-most (m % unit))
 
-price-most : (p : ℤ) → length (priceText p) ≤ 27
+price-most : (p : ℤ) → length (priceText p) ≤ 20 + mostDecimals
 unfolding priceText
 price-most (pos n) = omega (arith, amount-most n)
 price-most (negsuc n) = omega (arith, amount-most (suc n))
