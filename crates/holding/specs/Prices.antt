@@ -8,9 +8,9 @@ use lib.IntN.{ℤ, pos, negsuc}
 abbrev pub mostWholes : ℕ
 mostWholes = 9
 
--- and 1 to 7 after it: what else is said of prices anywhere follows from these two
+-- and 1 to 8 after it (document 02, K6): what else is said of prices anywhere follows from these two
 abbrev pub mostDecimals : ℕ
-mostDecimals = 7
+mostDecimals = 8
 
 -- a price of 1
 abbrev pub unit : ℕ

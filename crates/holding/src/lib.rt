@@ -6,10 +6,10 @@ ghost use Rattle.holding.specs.Prices.{heldOf, ofHeld};
 // The digits of tag 270 before the point and after it.
 pub const WHOLES: usize = 9;
 
-pub const DECIMALS: usize = 7;
+pub const DECIMALS: usize = 8;
 
 // Ten to the number of zeros.
-pub const TENS: [u64; 10] = [
+const TENS: [u64; 10] = [
     1,
     10,
     100,

@@ -1,5 +1,5 @@
--- Tag 270 (document 01, "Fields"): an optional minus, 1 to 9 digits (leading zeros allowed), then nothing or a point and
--- 1 to 7 digits; held as a signed whole number of ten-millionths. Assumes nothing.
+-- Tag 270 (document 01, "Fields"; document 02, K6): an optional minus, 1 to 9 digits (leading zeros allowed), then nothing or a
+-- point and 1 to 8 digits; held as a signed whole number of hundred-millionths. Assumes nothing.
 use Prim.Native.Nat.{ℕ, _+_, _-_, _*_, _^_}
 use mathlib.Core.List.{List, [], _∷_}
 use mathlib.Core.Bool.{cond}

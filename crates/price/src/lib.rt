@@ -2,7 +2,6 @@
 // minus (document 01, "Fields" 270 and "Quote and writing").
 use digits::Number;
 use holding::DECIMALS;
-use holding::TENS;
 use holding::UNIT;
 use holding::WHOLES;
 ghost use mathlib.Core.Path.{_≡_};
@@ -34,12 +33,23 @@ fn find(text: &[u8], x: u8) -> usize
     n
 }
 
-// Ten to the number of decimals that are missing.
+// Ten to the number of decimals that are missing. Of cases the compiler makes a table in the archive, of a constant array stores
+// at each call.
 fn scale(n: usize) -> u64
     requires { ⌜ n ≤ mostDecimals ⌝ }
     ensures { λ r. ⌜ r ≡ 10 ^ (mostDecimals - n) ⌝ }
 {
-    TENS[DECIMALS - n]
+    match DECIMALS - n {
+        0 => 1,
+        1 => 10,
+        2 => 100,
+        3 => 1000,
+        4 => 10000,
+        5 => 100000,
+        6 => 1000000,
+        7 => 10000000,
+        _ => 100000000,
+    }
 }
 
 // Without its sign: digits, then nothing or a point and digits.

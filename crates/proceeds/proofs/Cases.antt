@@ -18,4 +18,7 @@ lot-cases =
       above = refl;
       partial = refl;
       largest = refl;
+      smallest = refl;
+      fitting = refl;
+      passing = refl;
     }

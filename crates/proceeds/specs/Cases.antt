@@ -32,5 +32,9 @@ pub record LotCases : Type 0 where
   pub above : lotOf 536870912 (of 536870912 (pos 17179869184) ∷ []) ≡ Lot.Over
   -- a partial sum that does not fit, where the whole one would
   pub partial : lotOf 536870913 (of 536870912 (pos 17179869184) ∷ of 1 (negsuc 0) ∷ []) ≡ Lot.Over
-  -- the largest product of a price that fits tag 270 and a quantity
+  -- the greatest quantity at the greatest price of tag 270, and at its negative
   pub largest : lotOf 999999999 (of 999999999 (pos (top - 1)) ∷ []) ≡ Lot.Over
+  pub smallest : lotOf 999999999 (of 999999999 (negsuc (top - 2)) ∷ []) ≡ Lot.Over
+  -- of that price 92 units fit, and 93 do not
+  pub fitting : lotOf 92 (of 92 (pos (top - 1)) ∷ []) ≡ brings (pos 9199999999999999908) 0
+  pub passing : lotOf 93 (of 93 (pos (top - 1)) ∷ []) ≡ Lot.Over

@@ -71,15 +71,15 @@ Writes bytes =
     ≡ sets room 0 bytes
 
 pub record MarkedCases : Type 0 where
-  -- 24.01 is 240100000
-  pub m1 : priceOf (50 ∷ 52 ∷ 46 ∷ 48 ∷ 49 ∷ []) ≡ Priced.Is (pos 240100000)
-  -- -0.5 is -5000000
-  pub m2 : priceOf (45 ∷ 48 ∷ 46 ∷ 53 ∷ []) ≡ Priced.Is (negsuc 4999999)
+  -- 24.01 is 2401000000
+  pub m1 : priceOf (50 ∷ 52 ∷ 46 ∷ 48 ∷ 49 ∷ []) ≡ Priced.Is (pos 2401000000)
+  -- -0.5 is -50000000
+  pub m2 : priceOf (45 ∷ 48 ∷ 46 ∷ 53 ∷ []) ≡ Priced.Is (negsuc 49999999)
   -- -0 is 0
   pub m3 : priceOf (45 ∷ 48 ∷ []) ≡ Priced.Is (pos 0)
-  -- 1. and 8 decimals refused, alone and in a message
+  -- 1. and 9 decimals refused, alone and in a message
   pub m4-point : priceOf (49 ∷ 46 ∷ []) ≡ Priced.No
-  pub m4-many : priceOf (49 ∷ 46 ∷ 49 ∷ 50 ∷ 51 ∷ 52 ∷ 53 ∷ 54 ∷ 55 ∷ 56 ∷ []) ≡ Priced.No
+  pub m4-many : priceOf (49 ∷ 46 ∷ 49 ∷ 50 ∷ 51 ∷ 52 ∷ 53 ∷ 54 ∷ 55 ∷ 56 ∷ 57 ∷ []) ≡ Priced.No
   pub m4-point-read : messageIn 0 point-alone ≡ refused BadFields
   pub m4-many-read : messageIn 0 too-many-decimals ≡ refused BadFields
   -- 20240229 good, 20250229 and 19000229 not

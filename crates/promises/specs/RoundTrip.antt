@@ -32,7 +32,7 @@ pub record SameBook (xs : List ℕ) (id k m : ℕ) (time bytes : List ℕ) : Typ
       messageIn (boardAt xs .depth) bytes
       ≡ snapshot (record { number = k; heard = sent; id = id; last = boardAt xs .H; loops = m }) (newOf id (inst id (boardAt xs) .book))
   pub entries : shown (newOf id (inst id (boardAt xs) .book)) ≡ inst id (boardAt xs) .book
-  -- of 104 to 4,267 bytes
+  -- of 104 to 4,307 bytes
   pub sized : Sized bytes
   -- which any sound store of the same depth kind takes that awaits it
   pub taken : (ys : List ℕ) → sound ys ≡ true → boardAt ys .depth ≡ boardAt xs .depth → Awaits id (boardAt xs .H) (boardAt ys)

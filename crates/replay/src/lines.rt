@@ -113,7 +113,7 @@ fn put_bytes(line: &mut [u8], text: &[u8]) -> usize {
     at
 }
 
-// A space and the bytes as text: up to 4,267 bytes, each of at most four in the line.
+// A space and the bytes as text: up to 4,307 bytes, each of at most four in the line.
 fn bytes(text: &[u8]) {
     let mut line = [0u8; 17068];
     let n = put_bytes(&mut line, text);

@@ -10,7 +10,7 @@
 //   S  SecurityID 8 bytes                                       state, in room of 4 numbers
 //   B  nothing                                                  summary of the board, in room of 5 numbers
 //   W  SecurityID 8 bytes, k, m, sender's and target's length,
-//      a byte each, then sender, target, time                   writing, in room of 4,267 bytes
+//      a byte each, then sender, target, time                   writing, in room of 4,307 bytes
 //   R  from 8 bytes, numbers of the room a byte, then the bytes  walk of a recording, in room of so many numbers
 //   L  SecurityID 8 bytes, limit 8 bytes, quantity 8 bytes,
 //      then now                                                 lot sold, in room of 5 numbers
@@ -69,7 +69,7 @@ fn board_call(store: &[u64]) {
 
 // Has a snapshot written.
 fn write_call(store: &[u64], body: &[u8]) {
-    let mut room = [0u8; 4267];
+    let mut room = [0u8; 4307];
     let answer = write_into(store, body, &mut room);
     lines::written(answer % 256, answer / 256, &room);
 }

@@ -47,12 +47,12 @@ pub record ReadBack (depth : ℕ) (l : Letter) (who H : ℕ) (b : Lists) : Type 
       ≡ snapshot (record { number = l .k; heard = l .time; id = who; last = H; loops = l .m }) (newOf who b)
   pub book : shown (newOf who b) ≡ b
 
--- Length is 104 to 4,267 bytes.
+-- Length is 104 to 4,307 bytes (document 02, K6).
 abbrev pub leastBytes : ℕ
 leastBytes = 104
 
 abbrev pub mostBytes : ℕ
-mostBytes = 4267
+mostBytes = 4307
 
 pub record Sized (msg : List ℕ) : Type 0 where
   pub least : leastBytes ≤ length msg

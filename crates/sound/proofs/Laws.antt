@@ -14,6 +14,7 @@ use Rattle.loops.specs.Channel.{Channel}
 use Rattle.loops.specs.Sound.{soundLoop, soundChannel, SoundChannel}
 use Rattle.loops.proofs.Sounding.{tested-channel, channel-tested}
 use Rattle.store.specs.Layout.{storeSize, earlierLayouts}
+use Rattle.store.proofs.Layouts.{new-number}
 use Rattle.store.specs.Meaning.{channelAt, written}
 use Rattle.scan.specs.Scan.{scan}
 use Rattle.sound.specs.Sound.{same, sound}
@@ -138,5 +139,5 @@ pub earlier-is-unsound : EarlierIsUnsound
 earlier-is-unsound xs e = go (sound xs) refl
   where
     go : (t : Bool) → sound xs ≡ t → t ≡ false
-    go true s = sym (ap (λ (n : ℕ). among n earlierLayouts) (sym (sound-is-canon xs s .0 .formed .layout)) ∙ e)
+    go true s = sym e ∙ ap (λ (n : ℕ). among n earlierLayouts) (sound-is-canon xs s .0 .formed .layout) ∙ new-number
     go false s = refl

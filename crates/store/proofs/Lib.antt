@@ -1,3 +1,4 @@
+pub mod Layouts
 pub mod Choices
 pub mod Regions
 pub mod Decode

@@ -8,11 +8,11 @@ storeSize = 7168
 
 -- The number of this layout, so that a store of another is unsound.
 abbrev pub layoutNumber : ℕ
-layoutNumber = 4602
+layoutNumber = 4603
 
 -- The numbers of earlier layouts, which no store of this one has.
 abbrev pub earlierLayouts : List ℕ
-earlierLayouts = 4601 ∷ []
+earlierLayouts = 4601 ∷ 4602 ∷ []
 
 -- The heading: the layout's number, the depth kind, how many instruments are followed, H, B, the heard moment, the marks,
 -- how many entries are queued; the record of the loop of snapshots: 911, how many have come, the lowest 369, the named; then 20

@@ -15,7 +15,7 @@ ghost use Rattle.store.specs.Steps.{gapS};
 pub const STORE: usize = 7168;
 
 // The number of this layout, and where it stands.
-pub const LAYOUT: u64 = 4602;
+pub const LAYOUT: u64 = 4603;
 
 pub const AT_LAYOUT: usize = 0;
 

@@ -1,36 +1,54 @@
--- `price::scale` meets its contract: its table is of powers of ten. Assumes nothing.
-use Prim.Native.Nat.{ℕ, zero, suc, _-_, _*_, _^_, _<_}
-use mathlib.Core.Path.{_≡_, sym, ap, _∙_}
-use mathlib.Core.List.{List, [], _∷_}
-use native.Mathlib.Nat.{mul-one, one-mul, mul-assoc, mul-comm, pow-suc}
+-- `price::scale` meets its contract, by its nine cases. Assumes nothing.
+use Prim.Native.Nat.{ℕ, _-_, _≤_}
+use mathlib.Core.Path.{_≡_}
 use native.Mathlib.Omega.{arith}
 use borrow.Author.Needs.{needs}
-use lib.ListN.{getD}
 use Rattle.price.specs.Price.{mostDecimals}
 use Rattle.price.proofs.scale.Statement.{statement}
 use Rattle.price.proofs.scale.Tie as tie
 
--- n powers of ten, from v on
-abbrev powers : ℕ → ℕ → List ℕ
-powers v zero = []
-powers v (suc n) = v ∷ powers (v * 10) n
+lows : (k : ℕ) → (k ≡ 0 → ⊥) → (k ≡ 1 → ⊥) → (k ≡ 2 → ⊥) → (k ≡ 3 → ⊥) → 4 ≤ k
+lows k a b c d = omega arith
 
-power-at : (n v k : ℕ) → k < n → getD (powers v n) k 0 ≡ v * 10 ^ k
-power-at zero v k h = absurd (omega arith)
-power-at (suc n) v zero h = sym (mul-one v)
-power-at (suc n) v (suc k) h = power-at n (v * 10) k (omega arith) ∙ rw pow-suc (mul-assoc v 10 (10 ^ k) ∙ ap (λ (m : ℕ). v * m) (mul-comm 10 (10 ^ k)))
+last : (k : ℕ) → 4 ≤ k → k ≤ 8 → (k ≡ 4 → ⊥) → (k ≡ 5 → ⊥) → (k ≡ 6 → ⊥) → (k ≡ 7 → ⊥) → k ≡ 8
+last k h l a b c d = omega arith
 
-sub-result : tie.Need-sub-result
-sub-result c = search needs
-
-mul-result : tie.Need-mul-result
-mul-result c = search needs
-
-array-read-result : tie.Need-array-read-result
-array-read-result c = search needs
+sub-match : tie.Need-sub-match
+sub-match c = search needs
 
 returns : tie.Need-returns
-returns c = power-at 10 1 (mostDecimals - c .args .n) (omega arith) ∙ one-mul (10 ^ (mostDecimals - c .args .n))
+returns c = rw (c .match .keys1)
+
+returns-2 : tie.Need-returns-2
+returns-2 c = rw (c .match .keys2)
+
+returns-3 : tie.Need-returns-3
+returns-3 c = rw (c .match .keys3)
+
+returns-4 : tie.Need-returns-4
+returns-4 c = rw (c .match .keys4)
+
+returns-5 : tie.Need-returns-5
+returns-5 c = rw (c .match .keys5)
+
+returns-6 : tie.Need-returns-6
+returns-6 c = rw (c .match .keys6)
+
+returns-7 : tie.Need-returns-7
+returns-7 c = rw (c .match .keys7)
+
+returns-8 : tie.Need-returns-8
+returns-8 c = rw (c .match .keys8)
+
+returns-9 : tie.Need-returns-9
+returns-9 c =
+    let r = c .match .rest in
+    let k = mostDecimals - c .before .args .n in
+    let l = lows k (r .0 .0 .0 .0 .0 .0 .0 .1) (r .0 .0 .0 .0 .0 .0 .1) (r .0 .0 .0 .0 .0 .1) (r .0 .0 .0 .0 .1) in
+    let q : k ≡ 8 = last k l (omega arith) (r .0 .0 .0 .1) (r .0 .0 .1) (r .0 .1) (r .1) in
+    rw q
 
 pub scale-spec : {M : Type 1} → statement M
-scale-spec = tie.close (tie.spec sub-result mul-result array-read-result returns)
+scale-spec =
+    tie.close
+    (tie.spec sub-match returns returns-2 returns-3 returns-4 returns-5 returns-6 returns-7 returns-8 returns-9)
