@@ -20,7 +20,7 @@ pub enum Maker {
     Orders(u64),
 }
 
-/// One place of a side; the price is in ten-millionths.
+/// One place of a side; the price is in hundred-millionths.
 #[derive(Clone, PartialEq, Eq, Debug)]
 pub struct Place {
     pub price: i64,

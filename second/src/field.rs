@@ -6,8 +6,14 @@ use crate::flip::{either, on, Flip};
 pub const LARGEST_NUMBER: u64 = 4_294_967_295;
 /// The largest SecurityID, 18 digits.
 pub const LARGEST_ID: u64 = 999_999_999_999_999_999;
-/// Ten-millionths in one.
-const ONE: i64 = 10_000_000;
+/// The most digits of a price (270) before its point.
+const UNITS: usize = 9;
+/// The most digits of a price after its point, and so the unit that it is held in (02, K6).
+pub const DECIMALS: usize = 8;
+/// Hundred-millionths in one.
+pub const ONE: i64 = 10_i64.pow(DECIMALS as u32);
+/// One above the greatest price that is held.
+pub const PRICE_END: u64 = 10_u64.pow((UNITS + DECIMALS) as u32);
 
 /// A whole number without leading zero, except 0 itself, from `low` to `high`.
 pub fn whole(value: &[u8], low: u64, high: u64) -> Option<u64> {
@@ -32,7 +38,7 @@ pub fn security(value: &[u8]) -> Option<u64> {
     whole(value, either(Flip::IdZero, 1, 0), most)
 }
 
-/// 270: optional minus, 1 to 9 digits, then nothing or a point and 1 to 7 digits.
+/// 270: optional minus, 1 to 9 digits, then nothing or a point and 1 to 8 digits.
 pub fn price(value: &[u8]) -> Option<i64> {
     let text = std::str::from_utf8(value).ok()?;
     let (minus, rest) = match text.strip_prefix('-') {
@@ -43,12 +49,17 @@ pub fn price(value: &[u8]) -> Option<i64> {
         Some((units, decimals)) => (units, Some(decimals)),
         None => (rest, None),
     };
-    let units = price_part(units, either(Flip::TenUnits, 9, 10))?;
+    let digits = units.len() + decimals.map_or(0, str::len);
+    if on(Flip::SixteenDigits) && digits >= UNITS + DECIMALS {
+        return None;
+    }
+    let units = price_part(units, either(Flip::TenUnits, UNITS, UNITS + 1))?;
     let parts = match decimals {
-        Some(text) => ten_millionths(text)?,
+        Some(text) => fraction(text)?,
         None => 0,
     };
     let size = units * ONE + parts;
+    let size = either(Flip::PriceTenMillionths, size, size / 10);
     let keep_minus = either(Flip::MinusFraction, true, units != 0);
     Some(if minus && keep_minus { -size } else { size })
 }
@@ -63,11 +74,13 @@ fn price_part(text: &str, most: usize) -> Option<i64> {
     }
 }
 
-/// 1 to 7 decimals as ten-millionths.
-fn ten_millionths(text: &str) -> Option<i64> {
-    price_part(text, either(Flip::EightDecimals, 7, 8))?;
-    let padded = format!("{text:0<7}");
-    padded[..7].parse().ok()
+/// 1 to 8 decimals as hundred-millionths.
+fn fraction(text: &str) -> Option<i64> {
+    let most = either(Flip::SevenDecimals, either(Flip::NineDecimals, DECIMALS, DECIMALS + 1), DECIMALS - 1);
+    price_part(text, most)?;
+    let padded = format!("{text:0<DECIMALS$}");
+    let parts: i64 = padded[..DECIMALS].parse().ok()?;
+    Some(either(Flip::EighthDropped, parts, parts / 10 * 10))
 }
 
 /// 37, and the writer's sender and target: 1 to 16 bytes, each 33 to 126.

@@ -1,6 +1,7 @@
 //! The making of calls: a seed gives a script that leads a store through true streams, losses,
 //! bursts, snapshots of every kind, loops of them whole and broken, bounds of every field, harm,
-//! questions good and bad, books aimed at the bounds of a lot's sum, and recordings to walk.
+//! questions good and bad, the longest writings, books aimed at the bounds of a lot's sum, and
+//! recordings to walk.
 
 mod asks;
 mod bounds;
@@ -52,6 +53,7 @@ enum Step {
     Lot,
     AimedLots,
     Write,
+    LongestWrite,
     State,
     Board,
     Salvage,
@@ -61,7 +63,7 @@ enum Step {
 }
 
 /// How often each step is taken under each theme; a theme holds for a while.
-const WEIGHTS: [(Step, [u64; 6]); 25] = [
+const WEIGHTS: [(Step, [u64; 6]); 26] = [
     // calm, losses, bursts, bounds, harm, questions
     (Step::Next, [300, 200, 120, 120, 120, 80]),
     (Step::Recover, [60, 120, 40, 60, 60, 40]),
@@ -82,6 +84,7 @@ const WEIGHTS: [(Step, [u64; 6]); 25] = [
     (Step::Lot, [44, 30, 22, 30, 22, 160]),
     (Step::AimedLots, [8, 6, 6, 6, 5, 30]),
     (Step::Write, [40, 30, 30, 40, 30, 120]),
+    (Step::LongestWrite, [2, 1, 1, 3, 1, 6]),
     (Step::State, [40, 50, 40, 30, 30, 70]),
     (Step::Board, [30, 40, 30, 20, 20, 60]),
     (Step::Salvage, [22, 22, 16, 24, 24, 26]),
@@ -128,8 +131,8 @@ pub fn script(seed: u64, count: usize) -> Vec<Call> {
 const SEARCHED: usize = 3_000;
 
 /// The script of a seed up to a store that holds much, and then calls on that store with each of
-/// its 7,168 numbers in turn just outside its range, and with loop records at the edges of theirs:
-/// a message each time, another call at every fourth.
+/// its 7,168 numbers in turn just outside its range, with the number of each layout before this one,
+/// and with loop records at the edges of theirs: a message each time, another call at every fourth.
 pub fn sweep(seed: u64) -> Vec<Call> {
     let mut calls = script(seed, SEARCHED);
     let mut keeper = Keeper::default();
@@ -149,7 +152,8 @@ pub fn sweep(seed: u64) -> Vec<Call> {
     let mut feeds = later.iter().filter(|call| matches!(call, Call::Feed { .. })).cycle();
     let mut asks = later.iter().filter(is_ask).cycle();
     let singly = damage::just_outside(&store).into_iter().map(|change| vec![change]);
-    for (i, changes) in singly.chain(damage::loop_edges(&store)).enumerate() {
+    let at_once = damage::older_layouts().into_iter().chain(damage::loop_edges(&store));
+    for (i, changes) in singly.chain(at_once).enumerate() {
         let ask = if i % 4 == 0 { asks.next() } else { None };
         for call in feeds.next().into_iter().chain(ask) {
             calls.push(Call::Damage { changes: changes.clone(), call: Box::new(call.clone()) });
@@ -196,6 +200,7 @@ impl Generator {
             Step::Lot => self.lot(),
             Step::AimedLots => self.aimed_lots(),
             Step::Write => self.write(),
+            Step::LongestWrite => self.longest_write(),
             Step::State => self.state(),
             Step::Board => self.board(),
             Step::Salvage => self.salvage(),

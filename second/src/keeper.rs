@@ -13,8 +13,9 @@ use crate::writer::{self, Heading};
 
 /// The numbers that a lent store must have.
 pub const STORE_NUMBERS: u64 = 7_168;
-/// The bytes of the shortest writing.
+/// The bytes of the shortest writing, and of the longest.
 const SHORTEST_WRITING: u64 = 104;
+pub const LONGEST_WRITING: u64 = 4_307;
 /// The numbers of a state.
 pub const STATE_NUMBERS: usize = 4;
 /// The numbers of a summary of the board.
@@ -138,7 +139,9 @@ impl Keeper {
         let heading = Heading { sender: &sender, target: &target, k, m, time };
         let bytes = writer::write(channel, instrument, &heading);
         let needed = bytes.len() as u64 + either(Flip::RoomExact, 0, 1);
-        if needed > room {
+        // Before K6 each of the 40 prices was a byte shorter.
+        let over = on(Flip::LongestAsBefore) && needed > LONGEST_WRITING - 40;
+        if needed > room || over {
             return Err(OUTPUT_SHORT);
         }
         Ok(bytes)

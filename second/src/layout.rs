@@ -5,16 +5,16 @@ use crate::book::{Action, Book, Depth, Entry, Maker, Place, SideName, Step, ROOM
 use crate::calendar::{Date, Moment, TimeOfDay};
 use crate::channel::{Channel, Queued, QUEUE_ROOM};
 use crate::days::{civil, day_of, ALL_DAYS};
-use crate::field::{LARGEST_ID, LARGEST_NUMBER};
+use crate::field::{LARGEST_ID, LARGEST_NUMBER, PRICE_END};
 use crate::flip::{either, on, Flip};
 use crate::instrument::Instrument;
 use crate::loops::Loop;
 
 /// The store's numbers.
 pub const NUMBERS: usize = 7_168;
-/// The number of this layout, and that of the one before it.
-pub const LAYOUT: u64 = 4_602;
-pub const OLDER_LAYOUT: u64 = 4_601;
+/// The number of this layout, and those of the ones before it, the first of them first.
+pub const LAYOUT: u64 = 4_603;
+pub const OLDER_LAYOUTS: [u64; 2] = [4_601, 4_602];
 
 pub const AT_LAYOUT: usize = 0;
 pub const AT_DEPTH: usize = 1;
@@ -83,7 +83,7 @@ fn heading_words(channel: &Channel) -> [u64; HEADING] {
     let marks = channel.instruments.iter().enumerate().map(|(i, x)| u64::from(x.waiting) << i).sum();
     let [reports, come, lowest, named] = loop_words(channel);
     [
-        LAYOUT,
+        either(Flip::LayoutAsBefore, LAYOUT, OLDER_LAYOUTS[1]),
         channel.depth as u64,
         channel.instruments.len() as u64,
         channel.h,
@@ -187,8 +187,10 @@ pub fn read(store: &[u64]) -> Option<Channel> {
 
 /// Takes over the numbers that a flip passes.
 fn pass_flipped(words: &mut [u64], store: &[u64]) {
-    if on(Flip::UnsoundOlder) && store[AT_LAYOUT] == OLDER_LAYOUT {
-        words[AT_LAYOUT] = OLDER_LAYOUT;
+    for (flip, older) in [Flip::UnsoundFirst, Flip::UnsoundOlder].into_iter().zip(OLDER_LAYOUTS) {
+        if on(flip) && store[AT_LAYOUT] == older {
+            words[AT_LAYOUT] = older;
+        }
     }
     if on(Flip::UnsoundLoopNamed) || on(Flip::UnsoundRepeats) {
         words[AT_NAMED] = store[AT_NAMED];
@@ -287,11 +289,13 @@ fn read_place(words: &[u64], depth: Depth) -> Option<Place> {
     in_range.then_some(place)
 }
 
-/// 9 digits and 7 decimals.
+/// 9 digits and 8 decimals.
 fn read_price(word: u64) -> Option<i64> {
     let half = (word / 2) as i64;
     let price = if word % 2 == 1 { -half - 1 } else { half };
-    (price.unsigned_abs() < 10_000_000_000_000_000).then_some(price)
+    let end =
+        either(Flip::PriceAsBefore, either(Flip::UnsoundPrice, PRICE_END, PRICE_END * 10), PRICE_END / 10);
+    (price.unsigned_abs() < end).then_some(price)
 }
 
 /// An order id of 1 to 16 bytes, or a number of orders of 1 to 65,535.

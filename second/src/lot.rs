@@ -70,8 +70,8 @@ pub fn lot(channel: &Channel, lot: &Lot, now: Moment) -> Result<[u64; LOT_NUMBER
 /// The sum for a quantity taken from a side, and what is left of it; or 35 where the sum after some
 /// place, from place 1 on, does not fit a signed 64-bit number.
 ///
-/// A price is under 10^16 ten-millionths and a lot under 10^9 units, so every sum is under 10^25,
-/// and `i128`, which goes beyond 10^38, holds it exactly.
+/// A price is under 10^17 hundred-millionths and a lot under 10^9 units, so every sum is under
+/// 10^26, and `i128`, which goes beyond 10^38, holds it exactly.
 fn sum_and_left(side: &[Place], quantity: u64) -> Result<(i64, u64), u64> {
     let side = &side[either(Flip::LotPlaceSkipped, 0, 1.min(side.len()))..];
     let (places, quantity) = (side.len(), i128::from(quantity));
@@ -97,6 +97,7 @@ fn covered(side: &[Place], n: usize, quantity: i128) -> i128 {
 /// it; or all of its units, where some are taken and it counts as whole.
 fn product(side: &[Place], i: usize, quantity: i128, whole: bool) -> i128 {
     let (price, size) = (i128::from(side[i].price), i128::from(side[i].size));
+    let price = either(Flip::LotTenMillionths, price, price / 10);
     let taken = covered(side, i + 1, quantity) - covered(side, i, quantity);
     let units = if whole && taken > 0 { size } else { taken };
     either(Flip::LotNoSign, price, price.abs()) * units

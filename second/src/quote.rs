@@ -51,7 +51,8 @@ fn side_numbers(place: Option<&Place>) -> [u64; 7] {
         Maker::Orders(orders) => (*orders, 0),
     };
     let date = place.date.number();
-    [1, place.price as u64, place.size, first, second, date, place.time.number()]
+    let price = either(Flip::QuoteTenMillionths, place.price, place.price / 10);
+    [1, price as u64, place.size, first, second, date, place.time.number()]
 }
 
 /// Eight bytes of an order id from `start`, low byte first, filled with zeros.

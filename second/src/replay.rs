@@ -2,12 +2,9 @@
 //! a snapshot of every followed instrument.
 
 use crate::frame::SOH;
-use crate::keeper::STORE_NUMBERS;
+use crate::keeper::{LONGEST_WRITING, STORE_NUMBERS};
 use crate::quote::QUOTE_NUMBERS;
 use crate::script::Call;
-
-/// The bytes of the longest snapshot.
-pub const LONGEST_WRITING: u64 = 4_267;
 
 /// What is asked of a recording.
 pub struct Asked {

@@ -3,6 +3,7 @@
 use crate::book::{Maker, Place};
 use crate::calendar::Moment;
 use crate::channel::Channel;
+use crate::field::{DECIMALS, ONE};
 use crate::flip::{either, Flip};
 use crate::frame::SOH;
 use crate::instrument::Instrument;
@@ -70,10 +71,12 @@ fn seal(body: &[u8]) -> Vec<u8> {
 }
 
 /// Prices have no needless zero, point or minus.
-pub fn price_text(price: i64) -> String {
-    let (units, parts) = (price.abs() / 10_000_000, price.abs() % 10_000_000);
+fn price_text(price: i64) -> String {
+    let (units, parts) = (price.abs() / ONE, price.abs() % ONE);
+    let parts = either(Flip::EighthNotWritten, parts, parts / 10 * 10);
     let minus = if price < 0 { "-" } else { "" };
-    let decimals = format!("{parts:07}");
+    let width = either(Flip::WrittenInSeven, DECIMALS, DECIMALS - 1);
+    let decimals = format!("{parts:0width$}");
     let shown = decimals.trim_end_matches('0');
     let shown = either(Flip::NeedlessZero, shown, &decimals[..shown.len().max(1)]);
     let point = if shown.is_empty() { "" } else { "." };

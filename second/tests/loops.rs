@@ -6,7 +6,7 @@ use std::collections::BTreeSet;
 use selkavorn_second::channel::Channel;
 use selkavorn_second::gen::script;
 use selkavorn_second::keeper::Keeper;
-use selkavorn_second::layout::{read, words, AT_REPORTS, LAYOUT};
+use selkavorn_second::layout::{read, words, AT_REPORTS};
 use selkavorn_second::loops::Loop;
 use selkavorn_second::message::{snapshot_of, Snapshot};
 use selkavorn_second::run::run_plainly;
@@ -378,10 +378,6 @@ fn the_record_in_the_store() {
     for record in unsound {
         assert!(!sound(record), "{record:?}");
     }
-    let mut older = keeper().words();
-    assert_eq!((older[0], LAYOUT), (4_602, 4_602));
-    older[0] = 4_601;
-    assert!(read(&older).is_none());
 }
 
 /// The longest loop: its last two W, with the record set as if all before had come.

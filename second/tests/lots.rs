@@ -60,11 +60,11 @@ fn brings(rows: &[Row], quantity: u64) -> Result<(i64, u64), u64> {
 #[test]
 fn down_three_places() {
     let rows = &[("10.58", 5_000), ("10.57", 4_000), ("10.54", 3_000)];
-    let units = |price: i64| price * 10_000_000;
-    assert_eq!(brings(rows, 1), Ok((105_800_000, 0)));
-    assert_eq!(brings(rows, 4_999), Ok((units(52_900) - 105_800_000, 0)));
+    let units = |price: i64| price * 100_000_000;
+    assert_eq!(brings(rows, 1), Ok((1_058_000_000, 0)));
+    assert_eq!(brings(rows, 4_999), Ok((units(52_900) - 1_058_000_000, 0)));
     assert_eq!(brings(rows, 5_000), Ok((units(52_900), 0)));
-    assert_eq!(brings(rows, 5_001), Ok((units(52_900) + 105_700_000, 0)));
+    assert_eq!(brings(rows, 5_001), Ok((units(52_900) + 1_057_000_000, 0)));
     assert_eq!(brings(rows, 6_000), Ok((units(63_470), 0)));
     assert_eq!(brings(rows, 9_000), Ok((units(95_180), 0)));
     assert_eq!(brings(rows, 12_000), Ok((units(126_800), 0)));
@@ -81,47 +81,47 @@ fn an_empty_side_brings_nothing() {
 
 #[test]
 fn prices_of_0_and_below() {
-    let rows = &[("0.5", 2), ("0", 10), ("-0.5", 2), ("-999999999.9999999", 1)];
-    assert_eq!(brings(rows, 2), Ok((10_000_000, 0)));
-    assert_eq!(brings(rows, 12), Ok((10_000_000, 0)));
-    assert_eq!(brings(rows, 13), Ok((5_000_000, 0)));
+    let rows = &[("0.5", 2), ("0", 10), ("-0.5", 2), ("-999999999.99999999", 1)];
+    assert_eq!(brings(rows, 2), Ok((100_000_000, 0)));
+    assert_eq!(brings(rows, 12), Ok((100_000_000, 0)));
+    assert_eq!(brings(rows, 13), Ok((50_000_000, 0)));
     assert_eq!(brings(rows, 14), Ok((0, 0)));
-    assert_eq!(brings(rows, 16), Ok((-9_999_999_999_999_999, 1)));
+    assert_eq!(brings(rows, 16), Ok((-99_999_999_999_999_999, 1)));
 }
 
 #[test]
 fn twenty_places() {
     let rows = &[("1", 10); 20];
-    assert_eq!(brings(rows, 199), Ok((1_990_000_000, 0)));
-    assert_eq!(brings(rows, 201), Ok((2_000_000_000, 1)));
+    assert_eq!(brings(rows, 199), Ok((19_900_000_000, 0)));
+    assert_eq!(brings(rows, 201), Ok((20_000_000_000, 1)));
 }
 
 /// 153,092,023 times 60,247,241,209 is 2^63 - 1, and 119,537,721 times 77,158,673,929 is 2^63 + 1.
 #[test]
 fn the_bounds_at_one_place() {
-    assert_eq!(brings(&[("6024.7241209", 153_092_023)], 153_092_023), Ok((i64::MAX, 0)));
-    assert_eq!(brings(&[("1717.9869184", 1 << 29)], 1 << 29), Err(35));
-    assert_eq!(brings(&[("1717.9869184", 1 << 29)], (1 << 29) - 1), Ok((i64::MAX - (1 << 34) + 1, 0)));
-    assert_eq!(brings(&[("-1717.9869184", 1 << 29)], 1 << 29), Ok((i64::MIN, 0)));
-    assert_eq!(brings(&[("-7715.8673929", 119_537_721)], 119_537_721), Err(35));
+    assert_eq!(brings(&[("602.47241209", 153_092_023)], 153_092_023), Ok((i64::MAX, 0)));
+    assert_eq!(brings(&[("171.79869184", 1 << 29)], 1 << 29), Err(35));
+    assert_eq!(brings(&[("171.79869184", 1 << 29)], (1 << 29) - 1), Ok((i64::MAX - (1 << 34) + 1, 0)));
+    assert_eq!(brings(&[("-171.79869184", 1 << 29)], 1 << 29), Ok((i64::MIN, 0)));
+    assert_eq!(brings(&[("-771.58673929", 119_537_721)], 119_537_721), Err(35));
 }
 
 /// The last place brings the sum to a bound, or one beyond it.
 #[test]
 fn the_bounds_at_the_last_place() {
-    let above = |last| brings(&[("1717.9869184", (1 << 29) - 1), (last, 9)], 1 << 29);
-    assert_eq!(above("1717.9869183"), Ok((i64::MAX, 0)));
-    assert_eq!(above("1717.9869184"), Err(35));
-    let below = |last| brings(&[("-1717.9869184", (1 << 29) - 1), (last, 9)], 1 << 29);
-    assert_eq!(below("-1717.9869184"), Ok((i64::MIN, 0)));
-    assert_eq!(below("-1717.9869185"), Err(35));
+    let above = |last| brings(&[("171.79869184", (1 << 29) - 1), (last, 9)], 1 << 29);
+    assert_eq!(above("171.79869183"), Ok((i64::MAX, 0)));
+    assert_eq!(above("171.79869184"), Err(35));
+    let below = |last| brings(&[("-171.79869184", (1 << 29) - 1), (last, 9)], 1 << 29);
+    assert_eq!(below("-171.79869184"), Ok((i64::MIN, 0)));
+    assert_eq!(below("-171.79869185"), Err(35));
 }
 
 /// A sum that leaves the range at a place is refused, whatever comes after it.
 #[test]
 fn out_and_back() {
-    let above = &[("1717.9869184", 1 << 29), ("-0.0000001", 5)];
-    let below = &[("-1717.9869184", 1 << 29), ("-0.0000001", 1), ("0.0000001", 5)];
+    let above = &[("171.79869184", 1 << 29), ("-0.00000001", 5)];
+    let below = &[("-171.79869184", 1 << 29), ("-0.00000001", 1), ("0.00000001", 5)];
     assert_eq!(brings(above, (1 << 29) + 1), Err(35));
     assert_eq!(brings(below, 1 << 29), Ok((i64::MIN, 0)));
     assert_eq!(brings(below, (1 << 29) + 1), Err(35));
@@ -132,34 +132,37 @@ fn out_and_back() {
 #[test]
 fn products_are_not_asked() {
     assert_eq!(
-        brings(&[("-0.0000001", 1), ("1717.9869184", 1 << 29)], 999_999_999),
+        brings(&[("-0.00000001", 1), ("171.79869184", 1 << 29)], 999_999_999),
         Ok((i64::MAX, 463_129_086))
     );
-    let rows = &[("-1717.9869184", 1 << 29), ("6871.9476735", 1 << 28)];
+    let rows = &[("-171.79869184", 1 << 29), ("687.19476735", 1 << 28)];
     assert_eq!(brings(rows, 805_306_368), Ok((9_223_372_036_586_340_352, 0)));
 }
 
-/// Only the units that are taken of the last place count.
+/// Only the units that are taken of the last place count: of the extreme prices 92 fit.
 #[test]
 fn the_last_place_is_cut() {
-    let rows = &[("999999999.9999999", 999_999_999_999)];
-    assert_eq!(brings(rows, 1), Ok((9_999_999_999_999_999, 0)));
-    assert_eq!(brings(rows, 922), Ok((9_219_999_999_999_999_078, 0)));
-    assert_eq!(brings(rows, 923), Err(35));
-    assert_eq!(brings(&[("0.0000001", 999_999_999_999)], 999_999_999), Ok((999_999_999, 0)));
+    for (price, sign) in [("999999999.99999999", 1), ("-999999999.99999999", -1)] {
+        let rows = &[(price, 999_999_999_999)];
+        assert_eq!(brings(rows, 1), Ok((sign * 99_999_999_999_999_999, 0)));
+        assert_eq!(brings(rows, 92), Ok((sign * 9_199_999_999_999_999_908, 0)));
+        assert_eq!(brings(rows, 93), Err(35));
+        assert_eq!(brings(rows, 999_999_999), Err(35));
+    }
+    assert_eq!(brings(&[("0.00000001", 999_999_999_999)], 999_999_999), Ok((999_999_999, 0)));
 }
 
 #[test]
 fn selling_takes_bids_and_buying_offers() {
     let keeper = live(0, &[("24.01", 12)], &[("24.03", 7)]);
-    assert_eq!(lot(&keeper, Way::Sell, 10), Ok((2_401_000_000, 0)));
-    assert_eq!(lot(&keeper, Way::Buy, 10), Ok((1_682_100_000, 3)));
+    assert_eq!(lot(&keeper, Way::Sell, 10), Ok((24_010_000_000, 0)));
+    assert_eq!(lot(&keeper, Way::Buy, 10), Ok((16_821_000_000, 3)));
 }
 
 /// 17; 18 for id, now, limit and room; 20 to 24; 18 for the quantity; 35.
 #[test]
 fn the_order_of_checks() {
-    let mut keeper = live(0, &[("1717.9869184", 1 << 29)], &[]);
+    let mut keeper = live(0, &[("171.79869184", 1 << 29)], &[]);
     let of = |keeper: &Keeper, store_n, id, quantity, now: &[u8], limit_s, room| {
         let ask = |way| keeper.lot(store_n, &Lot { way, id, quantity, now, limit_s }, room).err();
         let sold = ask(Way::Sell);
@@ -185,7 +188,7 @@ fn the_order_of_checks() {
     assert_eq!(of(&keeper, STORE, 7, 1 << 29, NOW, 30, 5), Some(35));
     assert_eq!(of(&keeper, STORE, 7, 999_999_999, NOW, 30, 99), Some(35));
     assert_eq!(keeper.open(STORE, 0, &[7]), 0);
-    assert_eq!(keeper.feed(STORE, &w(0, &[("1717.9869184", 1 << 29)], &[])), (4, 0));
+    assert_eq!(keeper.feed(STORE, &w(0, &[("171.79869184", 1 << 29)], &[])), (4, 0));
     assert_eq!(of(&keeper, STORE, 7, 0, NOW, 30, 5), Some(22));
     assert_eq!(of(&keeper, STORE, 7, 1 << 29, NOW, 30, 5), Some(22));
 }

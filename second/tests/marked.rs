@@ -1,10 +1,11 @@
-//! The marked cases M1 to M14 of document 01, and its message of 110 bytes.
+//! The marked cases M1 to M14 of document 01, as request K6 of document 02 has them, and its message of
+//! 110 bytes.
 
 use selkavorn_second::book::{Action, Book, Maker, Place, SideName, Step};
 use selkavorn_second::calendar::{Date, TimeOfDay};
 use selkavorn_second::field;
 use selkavorn_second::frame;
-use selkavorn_second::keeper::{Keeper, Writing};
+use selkavorn_second::keeper::{Keeper, Writing, LONGEST_WRITING};
 
 const STORE: u64 = 7_168;
 const WHOLE: &str = "8=FIX.4.4|9=88|35=W|49=SHED|56=YARD|34=1|52=20250103-13:00:00.000|48=7|22=8|207=BVMF|369=0|911=1|268=0|10=029|";
@@ -70,12 +71,12 @@ fn after(action: Action) -> Vec<i64> {
 
 #[test]
 fn m1_to_m4_prices() {
-    assert_eq!(field::price(b"24.01"), Some(240_100_000));
-    assert_eq!(field::price(b"-0.5"), Some(-5_000_000));
+    assert_eq!(field::price(b"24.01"), Some(2_401_000_000));
+    assert_eq!(field::price(b"-0.5"), Some(-50_000_000));
     assert_eq!(field::price(b"-0"), Some(0));
     assert_eq!(field::price(b"1."), None);
-    assert_eq!(field::price(b"1.12345678"), None);
-    assert_eq!(field::price(b"1.1234567"), Some(11_234_567));
+    assert_eq!(field::price(b"1.123456789"), None);
+    assert_eq!(field::price(b"1.12345678"), Some(112_345_678));
 }
 
 #[test]
@@ -136,7 +137,7 @@ fn m12_snapshots() {
     assert_eq!(keeper.state(STORE, 7, 4), Ok([0, 0, 2, 0]));
     assert_eq!(keeper.board(STORE, 5), Ok([3, 20_250_103, 130_000_000, 2, 0b10]));
     let quote = keeper.quote(STORE, 7, b"20250103-13:00:00", 30, 17).unwrap();
-    assert_eq!(quote[..5], [3, 20_250_103, 130_000_000, 1, 240_100_000]);
+    assert_eq!(quote[..5], [3, 20_250_103, 130_000_000, 1, 2_401_000_000]);
 }
 
 #[test]
@@ -179,14 +180,15 @@ fn lengths_of_writings() {
         m: 16,
         time: b"20250103-13:00:00",
     };
-    assert_eq!(keeper.write(STORE, &longest, 4267).unwrap().len(), 4267);
-    assert_eq!(keeper.write(STORE, &longest, 4266), Err(25));
+    assert_eq!(LONGEST_WRITING, 4_307);
+    assert_eq!(keeper.write(STORE, &longest, 4_307).unwrap().len(), 4_307);
+    assert_eq!(keeper.write(STORE, &longest, 4_306), Err(25));
 }
 
 /// A W whose book takes the most bytes to write.
 fn longest_w() -> Vec<u8> {
     let entry = |side, p| {
-        format!("269={side}|270=-999999999.9999999|271=999999999999|37=ABCDEFGHIJKLMNOP|272=99991231|273=23:59:60.999|290={p}|")
+        format!("269={side}|270=-999999999.99999999|271=999999999999|37=ABCDEFGHIJKLMNOP|272=99991231|273=23:59:60.999|290={p}|")
     };
     let side = |side| (1..=20).map(|p| entry(side, p)).collect::<String>();
     let head = "34=1|52=20250103-13:00:00|48=999999999999999999|22=8|369=4294967295|911=2|268=40|";

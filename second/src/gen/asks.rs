@@ -1,11 +1,15 @@
 //! Questions: quotes, writings, states and summaries, with good arguments and bad ones.
 
+use super::exchange::TrueBook;
 use super::{bounds, clock, values, Generator};
-use crate::keeper::{Writing, STORE_NUMBERS};
+use crate::keeper::{Writing, LONGEST_WRITING, STORE_NUMBERS};
 use crate::script::Call;
 
 /// SecurityID arguments at the bounds of their range.
 const EDGE_IDS: [u64; 6] = [0, 1, 999_999_999_999_999_999, 1_000_000_000_000_000_000, 1 << 63, u64::MAX];
+
+/// A sender or target of the most bytes.
+const LONGEST_NAME: &[u8] = b"ABCDEFGHIJKLMNOP";
 
 /// k and m outside their range.
 #[rustfmt::skip]
@@ -80,7 +84,7 @@ impl Generator {
         match self.rng.below(16) {
             0 => bounds::bound(&mut self.rng, 37),
             1 => self.rng.pick::<&[u8]>(&[b"", b"A B", b"A\x01B", b"\x7f", b"ABCDEFGHIJKLMNOPQ"]).to_vec(),
-            2 | 3 => b"ABCDEFGHIJKLMNOP".to_vec(),
+            2 | 3 => LONGEST_NAME.to_vec(),
             _ => values::name(&mut self.rng).into_bytes(),
         }
     }
@@ -102,8 +106,22 @@ impl Generator {
 
     pub(super) fn write_call(&mut self) -> Call {
         let id = self.asked_id();
-        let (sender, target) = (self.some_name(), self.some_name());
-        let (k, m) = self.some_turn();
+        let names = [self.some_name(), self.some_name()];
+        let turn = self.some_turn();
+        self.write_call_of(id, names, turn)
+    }
+
+    /// Gives an instrument the longest book, and asks for its longest writing.
+    pub(super) fn longest_write(&mut self) {
+        let index = self.rng.below(self.exchange.followed);
+        self.give_book(index, TrueBook::longest());
+        let names = [LONGEST_NAME.to_vec(), LONGEST_NAME.to_vec()];
+        let call = self.write_call_of(self.exchange.ids[index], names, (16, 16));
+        self.call(call);
+    }
+
+    fn write_call_of(&mut self, id: u64, names: [Vec<u8>; 2], turn: (u64, u64)) -> Call {
+        let ([sender, target], (k, m)) = (names, turn);
         let time = self.some_now(30);
         let writing = Writing { id, sender: &sender, target: &target, k, m, time: &time };
         let written = self.guide.write(STORE_NUMBERS, &writing, u64::MAX).unwrap_or_default();
@@ -120,8 +138,8 @@ impl Generator {
             0 | 1 => length,
             2 => length.saturating_sub(1),
             3 => length + 1,
-            4 => *self.rng.pick(&[0, 1, 103, 104, 110, 4266, 4267]),
-            _ => *self.rng.pick(&[4267, 8192]),
+            4 => *self.rng.pick(&[0, 1, 103, 104, 110, LONGEST_WRITING - 1, LONGEST_WRITING]),
+            _ => *self.rng.pick(&[LONGEST_WRITING, 8192]),
         }
     }
 

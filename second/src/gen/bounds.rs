@@ -2,6 +2,7 @@
 
 use super::rng::Rng;
 use super::values;
+use crate::field::DECIMALS;
 
 /// Texts that are no whole numbers.
 const NOT_WHOLE: [&str; 12] =
@@ -12,13 +13,12 @@ const TYPES: [&str; 19] = [
     "X", "W", "0", "f", "y", "B", "A", "5", "x", "w", "F", "Y", "b", "XX", "WX", "00", "J", " X", "X ",
 ];
 
+/// Prices at the bounds of their shape, beside those of their decimals.
 #[rustfmt::skip]
-const PRICES: [&str; 39] = [
-    "1.", "-1.", ".5", "-.5", "-", "--1", "+1", "0.12345678", "0.1234567", "-0.00000000", "999999999",
-    "1000000000", "0000000001", "999999999.9999999", "-999999999.9999999", "999999999.99999999",
-    "-1000000000", "1.5.5", "1..5", "1,5", "1.-5", "-0", "-0.0", "00", "0", "1e5", "1 ", " 1", "1.5 ",
-    "000000000.0000000", "24.01", "-0.5", ".", "-.", "1.A", "A", "0x10", "1.0000000",
-    "12345678901234567890",
+const PRICES: [&str; 31] = [
+    "1.", "-1.", ".5", "-.5", "-", "--1", "+1", "999999999", "1000000000", "0000000001", "-1000000000",
+    "1.5.5", "1..5", "1,5", "1.-5", "-0", "-0.0", "00", "0", "1e5", "1 ", " 1", "1.5 ", "24.01", "-0.5",
+    ".", "-.", "1.A", "A", "0x10", "12345678901234567890",
 ];
 
 #[rustfmt::skip]
@@ -83,6 +83,10 @@ pub fn bound(rng: &mut Rng, tag: u32) -> Vec<u8> {
     match tag {
         52 => moment(rng).into_bytes(),
         37 => name(rng),
+        270 if rng.chance(20) => {
+            let decimals = *rng.pick(&[DECIMALS - 1, DECIMALS, DECIMALS + 1]);
+            values::long_price(rng, decimals).into_bytes()
+        }
         _ if rng.chance(10) => rng.pick(&NOT_WHOLE).as_bytes().to_vec(),
         _ => rng.pick(table(tag)).as_bytes().to_vec(),
     }

@@ -3,6 +3,7 @@
 
 use super::rng::Rng;
 use super::{values, Generator};
+use crate::field::PRICE_END;
 use crate::layout::*;
 use crate::script::Call;
 
@@ -12,7 +13,7 @@ const LEAST_FULL_ID_WORD: u64 = 65_545_047_154_955;
 /// One above the number of the last moment.
 const MOMENTS: u64 = 3_652_425 * 87_840_000;
 /// One above the number of the highest price.
-const PRICES: u64 = 2 * 9_999_999_999_999_999 + 1;
+const PRICES: u64 = 2 * PRICE_END - 1;
 
 /// Numbers of the store to set.
 type Changes = Vec<(u64, u64)>;
@@ -252,9 +253,14 @@ fn change_heading(rng: &mut Rng, store: &[u64]) -> Changes {
         8 => one(AT_FOLLOWED, *rng.pick(&[followed + 1, followed - 1, 0, 16, 17])),
         9 => one(AT_DEPTH, 1 - store[AT_DEPTH]),
         10 => [one(AT_H, 0), one(AT_B, 0), one(AT_HEARD, rng.between(0, 1))].concat(),
-        11 => one(AT_LAYOUT, *rng.pick(&[OLDER_LAYOUT, OLDER_LAYOUT, LAYOUT + 1, 0])),
+        11 => one(AT_LAYOUT, *rng.pick(&[LAYOUT + 1, 0])),
         _ => one(AT_H, h + rng.between(1, 3)),
     }
+}
+
+/// The numbers of the layouts before this one.
+pub fn older_layouts() -> Vec<Changes> {
+    OLDER_LAYOUTS.map(|older| vec![(AT_LAYOUT as u64, older)]).to_vec()
 }
 
 /// Loop records at the edges of their ranges, just inside and just outside: where one runs and
@@ -361,22 +367,35 @@ fn slot_at(store: &[u64], k: usize) -> [u64; SLOT] {
     std::array::from_fn(|i| store[slot(k) + i])
 }
 
+/// Where number `i` of some place stands, if a place is held or queued.
+fn some_place(rng: &mut Rng, store: &[u64], i: usize) -> Option<usize> {
+    let is = |at: &usize| matches!(use_of(store, *at), Use::Place(n) if n == i);
+    let places: Vec<usize> = (0..NUMBERS).filter(is).collect();
+    (!places.is_empty()).then(|| *rng.pick(&places))
+}
+
+/// A price about the end of its range, or of the range that it had in the layouts before.
+fn change_price(rng: &mut Rng, store: &[u64]) -> Changes {
+    let Some(at) = some_place(rng, store, 0) else { return some_numbers(rng, store) };
+    let end = *rng.pick(&[PRICES, PRICES / 10]);
+    vec![(at as u64, rng.between(end - 2, end + 1))]
+}
+
 /// An order id whose two words do not go together, or just do.
 fn change_order_id(rng: &mut Rng, store: &[u64]) -> Changes {
-    let places: Vec<usize> = (0..NUMBERS).filter(|i| matches!(use_of(store, *i), Use::Place(2))).collect();
-    if places.is_empty() {
-        return some_numbers(rng, store);
-    }
+    let Some(at) = some_place(rng, store, 2) else { return some_numbers(rng, store) };
     let by = *rng.pick(&[LEAST_FULL_ID_WORD - 1, LEAST_FULL_ID_WORD, GREATEST_ID_WORD, GREATEST_ID_WORD + 1]);
     let more = *rng.pick(&[0, 1, GREATEST_ID_WORD, GREATEST_ID_WORD + 1]);
-    set_run(*rng.pick(&places), &[by, more])
+    set_run(at, &[by, more])
 }
 
 /// Changes to a store that was opened.
 fn some_changes(rng: &mut Rng, store: &[u64]) -> Changes {
-    match rng.below(14) {
+    match rng.below(16) {
         0..=4 => some_numbers(rng, store),
         12 | 13 => change_loop(rng, store),
+        14 => change_price(rng, store),
+        15 => rng.pick(&older_layouts()).clone(),
         5 | 6 => change_heading(rng, store),
         7 => change_instruments(rng, store),
         8 => change_side(rng, store),

@@ -9,6 +9,7 @@ use super::draft::Draft;
 use super::entries::{self, Entry};
 use super::rng::Rng;
 use super::values;
+use crate::field::DECIMALS;
 
 /// The last number that a message can have.
 pub const LAST_NUMBER: u64 = 4_294_967_295;
@@ -41,7 +42,7 @@ impl Row {
     /// The longest values of every field.
     pub fn longest() -> Row {
         Row {
-            price: String::from("-999999999.9999999"),
+            price: format!("-999999999.{}", "9".repeat(DECIMALS)),
             size: String::from("999999999999"),
             order: String::from("ABCDEFGHIJKLMNOP"),
             orders: String::from("65535"),
@@ -55,6 +56,14 @@ impl Row {
 #[derive(Clone, Default, Debug)]
 pub struct TrueBook {
     pub sides: [Vec<Row>; 2],
+}
+
+impl TrueBook {
+    /// The book that takes the most bytes to write.
+    pub fn longest() -> TrueBook {
+        let side = vec![Row::longest(); 20];
+        TrueBook { sides: [side.clone(), side] }
+    }
 }
 
 /// How the books move for a while.

@@ -4,6 +4,7 @@
 use super::exchange::{Row, TrueBook};
 use super::rng::Rng;
 use super::{clock, values, Generator};
+use crate::field::PRICE_END;
 use crate::keeper::STORE_NUMBERS;
 use crate::lot::{Way, LARGEST_LOT, LOT_NUMBERS};
 use crate::script::Call;
@@ -23,8 +24,10 @@ const SUMS: [i128; 14] = [
     1, -1,
 ];
 
-/// A size at least as great as this makes a price out of any step from one of these sums to another.
-const LEAST_SIZE: u64 = 2_000;
+/// A size at least as great as this makes a price out of any step from one of these sums to another;
+/// the least power of two that does.
+const LEAST_SIZE: u64 = ((MOST - LEAST) / PRICE_END as i128) as u64 + 1;
+const LEAST_POWER: u64 = LEAST_SIZE.ilog2() as u64 + 1;
 /// How many sums a side is aimed at, at most, and the size that leaves a lot enough for them.
 const MOST_SUMS: usize = 4;
 const MOST_SIZE: u64 = LARGEST_LOT / MOST_SUMS as u64 - 1;
@@ -77,7 +80,7 @@ impl AimedSide {
 /// A size of an aimed place: a power of two leaves no rest beside the powers of two.
 fn some_size(rng: &mut Rng) -> u64 {
     if rng.chance(40) {
-        1 << rng.between(11, 27)
+        1 << rng.between(LEAST_POWER, 27)
     } else {
         rng.between(LEAST_SIZE, MOST_SIZE)
     }
@@ -187,7 +190,7 @@ impl Generator {
     }
 
     /// Gives an instrument this book: mostly by an X, and by a snapshot where it then waits.
-    fn give_book(&mut self, index: usize, book: TrueBook) {
+    pub(super) fn give_book(&mut self, index: usize, book: TrueBook) {
         if self.exchange.at_end() || (self.waits(index) && self.rng.chance(50)) {
             self.exchange.set_book(index, book.clone());
         } else {

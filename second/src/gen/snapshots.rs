@@ -134,8 +134,7 @@ impl Generator {
 
     /// The book that takes the most bytes to write.
     fn longest_book(&mut self, index: usize) -> Rc<TrueBook> {
-        let side = vec![Row::longest(); 20];
-        self.exchange.set_book(index, TrueBook { sides: [side.clone(), side] });
+        self.exchange.set_book(index, TrueBook::longest());
         self.exchange.book_at(index, LAST_NUMBER)
     }
 

@@ -1,13 +1,10 @@
 //! Values for fields: good ones at random, and ones that are passed over.
 
 use super::rng::Rng;
+use crate::field::{DECIMALS, ONE};
 
-/// Good prices at the bounds of their shape.
-#[rustfmt::skip]
-const EDGE_PRICES: [&str; 12] = [
-    "0", "-0", "-0.5", "0.0000001", "-0.0000001", "999999999.9999999", "-999999999.9999999", "000000000",
-    "000000001.0000000", "-000000000.0000000", "24.01", "1.10",
-];
+/// Good prices at the bounds of their shape, beside those with as many decimals as there may be.
+const EDGE_PRICES: [&str; 6] = ["0", "-0", "-0.5", "000000000", "24.01", "1.10"];
 
 /// `n` random digits.
 fn digits(rng: &mut Rng, n: u64) -> String {
@@ -24,22 +21,31 @@ fn whole(rng: &mut Rng, n: u64) -> String {
 pub fn price(rng: &mut Rng) -> String {
     match rng.below(10) {
         0..=4 => format!("{}.{:02}", rng.between(8, 40), rng.below(100)),
-        5 => String::from(*rng.pick(&EDGE_PRICES)),
+        5 if rng.chance(50) => String::from(*rng.pick(&EDGE_PRICES)),
+        5 => long_price(rng, DECIMALS),
         _ => {
             let minus = if rng.chance(40) { "-" } else { "" };
             let units = rng.between(1, 9);
-            let decimals = rng.between(0, 7);
+            let decimals = rng.between(0, DECIMALS as u64);
             let point = if decimals > 0 { "." } else { "" };
             format!("{minus}{}{point}{}", digits(rng, units), digits(rng, decimals))
         }
     }
 }
 
-/// A price of so many ten-millionths, in one of the ways to write it.
+/// A price with so many decimals, at the bounds of its digits.
+pub fn long_price(rng: &mut Rng, decimals: usize) -> String {
+    let minus = *rng.pick(&["", "-"]);
+    let units = *rng.pick(&["0", "000000000", "000000001", "999999999"]);
+    let (first, last) = (*rng.pick(&["0", "9"]), *rng.pick(&["0", "1", "9"]));
+    format!("{minus}{units}.{}{last}", first.repeat(decimals - 1))
+}
+
+/// A price of so many hundred-millionths, in one of the ways to write it.
 pub fn price_of(rng: &mut Rng, price: i64) -> String {
-    let (units, parts) = (price.unsigned_abs() / 10_000_000, price.unsigned_abs() % 10_000_000);
+    let (units, parts) = (price.abs() / ONE, price.abs() % ONE);
     let minus = if price < 0 { "-" } else { "" };
-    let whole = format!("{minus}{units}.{parts:07}");
+    let whole = format!("{minus}{units}.{parts:0DECIMALS$}");
     if rng.chance(20) {
         return whole;
     }
