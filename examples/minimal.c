@@ -32,11 +32,11 @@ static void feed(const char *text)
            SELKAVORN_WAITING_COUNT(answered));
 }
 
-/* One side of a quote, in ten-millionths; an empty side has no price. */
+/* One side of a quote, in hundred-millionths; an empty side has no price. */
 static void print_side(const char *name, const uint64_t side[])
 {
     if (side[SELKAVORN_SIDE_HELD])
-        printf("%s %" PRId64 " ten-millionths, size %" PRIu64 "\n", name,
+        printf("%s %" PRId64 " hundred-millionths, size %" PRIu64 "\n", name,
                (int64_t)side[SELKAVORN_SIDE_PRICE], side[SELKAVORN_SIDE_SIZE]);
     else
         printf("%s empty\n", name);

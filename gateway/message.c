@@ -50,20 +50,23 @@ uint64_t value_number(struct value value)
     return number;
 }
 
-/* 18 digits, a minus and a point at most. Each decimal makes the unit of the last digit a tenth. */
+/* Each decimal makes the unit of the last digit a tenth, and at last 0, where no more is read: 9
+ * digits and 9 decimals fit. */
 bool value_price(struct value value, uint64_t *price)
 {
+    enum { MOST_DIGITS = 9 }; /* before the point */
     uint64_t size = 0, unit = SELKAVORN_PRICE_UNIT;
     size_t first = value.length > 0 && value.bytes[0] == '-';
     bool behind_point = false;
-    if (value.length == first || value.length > 20 || value.bytes[first] == '.')
+    if (value.length == first || value.bytes[first] == '.')
         return false;
     for (size_t i = first; i < value.length; i++) {
         if (value.bytes[i] == '.' && !behind_point) {
             behind_point = true;
             continue;
         }
-        if (value.bytes[i] < '0' || value.bytes[i] > '9')
+        if (value.bytes[i] < '0' || value.bytes[i] > '9' || unit == 0 ||
+            (!behind_point && i - first == MOST_DIGITS))
             return false;
         size = size * 10 + (uint64_t)(value.bytes[i] - '0');
         unit /= behind_point ? 10 : 1;

@@ -46,8 +46,8 @@ static void print_lost_reset(void)
 
 /* ---- quotes ---- */
 
-/* A SecurityID of 18 digits, a price of 18 bytes and a size of 12 digits fit. */
-static const char ROW[] = "%-18s %-5s %18s %12s %s\n";
+/* A SecurityID of 18 digits, a price of 19 bytes and a size of 12 digits fit. */
+static const char ROW[] = "%-18s %-5s %19s %12s %s\n";
 
 static void print_side(const struct request *request, const struct quoted *quoted,
                        const char *side, size_t place)

@@ -47,7 +47,7 @@ void price_words(uint64_t price, char text[PRICE_TEXT])
     amount_words(amount_between(0, price), text);
 }
 
-/* What is left of a division is below the divisor, which is below 10^18, so ten times it fits. */
+/* What is left of a division is below the divisor, which is below 10^17, so ten times it fits. */
 bool average_words(uint64_t sum, uint64_t units, char text[AVERAGE_TEXT])
 {
     struct amount amount = amount_between(0, sum);

@@ -1,4 +1,4 @@
-/* Selkavorn 2.0: keeps the order books of one exchange channel and gives dated quotes.
+/* Selkavorn 3.0: keeps the order books of one exchange channel and gives dated quotes.
  *
  * This is the header of the books. Its functions are proved, and stand in libselkavorn.a (x86-64
  * Linux), as do those of selkavorn_lots.h, which say what a quantity brings down a book.
@@ -62,7 +62,7 @@
  *   read or written. A store holds no address, so a copy of a store is a store of its own. Nothing
  *   is kept outside it: the library allocates nothing and has no variables. A store that was
  *   damaged, or that another version wrote in another layout, is refused (17) until it is opened
- *   afresh; versions before 2.0 have another layout.
+ *   afresh; versions before 3.0 have another layout.
  *
  * Duties of the caller
  *   1. Feed the incremental stream whole, in the order in which it comes, and the W messages of its
@@ -153,10 +153,10 @@ extern "C" {
 
 /* The version: of this header and of the archive that it came with. The first number changes when a
  * program that was right may have to change, the second when something is added. */
-#define SELKAVORN_VERSION_MAJOR 2
+#define SELKAVORN_VERSION_MAJOR 3
 #define SELKAVORN_VERSION_MINOR 0
 #define SELKAVORN_VERSION_PATCH 0
-#define SELKAVORN_VERSION "2.0.0"
+#define SELKAVORN_VERSION "3.0.0"
 
 #define SELKAVORN_STORE_NUMBERS 7168     /* numbers that a store has at least */
 #define SELKAVORN_QUOTE_NUMBERS 17       /* numbers that a quote writes */
@@ -169,9 +169,9 @@ extern "C" {
 #define SELKAVORN_SHORTEST_MESSAGE 26    /* bytes of the shortest message that a walk finds */
 #define SELKAVORN_LONGEST_MESSAGE 8192   /* bytes of the longest message that is read */
 #define SELKAVORN_SHORTEST_WRITING 104   /* bytes of the shortest message that is written */
-#define SELKAVORN_LONGEST_WRITING 4267   /* bytes of the longest message that is written */
+#define SELKAVORN_LONGEST_WRITING 4307   /* bytes of the longest message that is written */
 #define SELKAVORN_LONGEST_LIMIT_S 86400  /* seconds of the longest limit of a quote */
-#define SELKAVORN_PRICE_UNIT 10000000    /* ten-millionths in a price of 1 */
+#define SELKAVORN_PRICE_UNIT 100000000   /* hundred-millionths in a price of 1 */
 
 /* The depth kinds of a channel. */
 enum selkavorn_depth {
@@ -285,7 +285,7 @@ enum selkavorn_quote_place {
 };
 enum selkavorn_side_place {
     SELKAVORN_SIDE_HELD = 0,  /* 1, or 0 where the side is empty */
-    SELKAVORN_SIDE_PRICE = 1, /* tag 270 in ten-millionths: a signed number as its 64 bits */
+    SELKAVORN_SIDE_PRICE = 1, /* tag 270 in hundred-millionths: a signed number as its 64 bits */
     SELKAVORN_SIDE_SIZE = 2,  /* tag 271 */
     SELKAVORN_SIDE_BY = 3,    /* bytes 1 to 8 of tag 37, low byte first, then zeros; or tag 346 */
     SELKAVORN_SIDE_MORE = 4,  /* bytes 9 to 16 of tag 37, likewise; or 0 */

@@ -1,4 +1,4 @@
-/* Selkavorn 2.0, lots: what a quantity brings down the book, for the desk.
+/* Selkavorn 3.0, lots: what a quantity brings down the book, for the desk.
  *
  * A library above the books of selkavorn.h, in the same archive, libselkavorn.a. Its two calls take
  * a store that selkavorn_open opened and selkavorn_feed fed, and only read it. What selkavorn.h
@@ -11,7 +11,8 @@
  *   selling    takes the bids from place 1 on: of each place its size, or what is left of the lot.
  *   buying     takes the offers likewise.
  *   sum        price times units, added over the places that were taken. It is exact, in the unit
- *              of a price: divide by SELKAVORN_PRICE_UNIT.
+ *              of a price: divide by SELKAVORN_PRICE_UNIT. 64 bits hold what is, so divided,
+ *              -92,233,720,368.54775808 to 92,233,720,368.54775807.
  *   left       the units that no place took. It is above 0 only where the whole side was taken.
  *
  * A lot rests on a quote and is dated as that quote is: by H and the heard moment. Where

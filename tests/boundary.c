@@ -392,6 +392,8 @@ static void feed(struct board *board, uint64_t answer, uint64_t waiting, const c
 #define NEW_BID "279=0|269=0|" ENTRY("7", "24.01") "290=1|"
 #define NEW_OFFER "279=0|269=1|" ENTRY("7", "-0.5") "290=1|"
 #define DELETE_BID "279=2|269=0|48=7|22=8|290=1|"
+#define HUNDREDTHS(n) (INT64_C(n) * SELKAVORN_PRICE_UNIT / 100)
+#define HIGHEST_PRICE (INT64_C(1000000000) * SELKAVORN_PRICE_UNIT - 1)
 #define HEARTBEAT "35=0|34=%d|" AT
 #define TEXT HEARTBEAT "58=%0*d|" /* with a value of the given width, of more than 999 bytes */
 #define AROUND_TEXT 63            /* bytes of such a message around that value */
@@ -683,6 +685,26 @@ static void open_with_book(struct board *board)
     feed(board, SELKAVORN_DONE, 1, "both sides", "35=X|34=1|" AT "268=2|" NEW_BID NEW_OFFER);
 }
 
+/* A store of each layout that a version before this one wrote, however sound its numbers are. */
+static void test_layouts(void)
+{
+    enum { LAYOUT_AT = 0, LAYOUT = 4603 };
+    static const uint64_t older[] = {4601, 4602}, ids[] = {7, 9};
+    begin("stores of other layouts");
+    for (size_t i = 0; i < sizeof older / sizeof *older; i++) {
+        open_with_book(&first);
+        check_equal(store_of(&first)[LAYOUT_AT], LAYOUT, "this layout");
+        store_of(&first)[LAYOUT_AT] = older[i];
+        check_refused_store("a store of an older layout");
+        check_equal(open_board(&first, SELKAVORN_ORDER_DEPTH, ids, 2), SELKAVORN_DONE, "afresh");
+        feed(&first, SELKAVORN_DONE, 2, "it is read again", HEARTBEAT, 1);
+    }
+    open_with_book(&first);
+    store_of(&first)[LAYOUT_AT] = LAYOUT + 1;
+    check_refused_store("a store of a layout to come");
+    end();
+}
+
 static const char *const bad_moments[] = {
     "", "20250103", "20250103-13:00", "20250229-13:00:00", "19000229-13:00:00",
     "20250103-24:00:00", "20250103-13:60:00", "20250103-13:00:61", "20250103-13:00:00.",
@@ -719,8 +741,8 @@ static void test_quote(void)
 {
     static const uint64_t wanted[SELKAVORN_QUOTE_NUMBERS] = {
         1, 20250103, 130000000,
-        1, 240100000, 12, ORDER_12, ORDER_345, 20250103, 125958250,
-        1, (uint64_t)-5000000, 12, ORDER_12, ORDER_345, 20250103, 125958250};
+        1, HUNDREDTHS(2401), 12, ORDER_12, ORDER_345, 20250103, 125958250,
+        1, (uint64_t)HUNDREDTHS(-50), 12, ORDER_12, ORDER_345, 20250103, 125958250};
     begin("quote");
     open_fresh(&first, SELKAVORN_ORDER_DEPTH);
     check_equal(quote(&first, 8, "20250103-13:00:00", 30, 17), SELKAVORN_UNFOLLOWED, "8");
@@ -874,22 +896,23 @@ static void test_lot(void)
     begin("lots");
     for (uint64_t depth = 0; depth < 2; depth++) {
         open_with_rows(depth, bids, offers);
-        check_given(good_lot(SELL, 1), 105800000, 0, "a unit sold");
-        check_given(good_lot(SELL, 5000), 529000000000, 0, "place 1 whole");
-        check_given(good_lot(SELL, 5001), 529105700000, 0, "one unit of place 2");
-        check_given(good_lot(SELL, 6000), 634700000000, 0, "place 2 in part");
-        check_given(good_lot(SELL, 12000), 1268000000000, 0, "all bids");
-        check_given(good_lot(SELL, 12001), 1268000000000, 1, "one unit left");
-        check_given(good_lot(SELL, SELKAVORN_LARGEST_LOT), 1268000000000, 999987999, "much left");
-        check_given(good_lot(BUY, 1), 110300000, 0, "a unit bought");
-        check_given(good_lot(BUY, 7001), 772095000000, 0, "a price below 0");
-        check_given(good_lot(BUY, 9001), 762100000000, 1, "one unit not bought");
+        check_given(good_lot(SELL, 1), HUNDREDTHS(1058), 0, "a unit sold");
+        check_given(good_lot(SELL, 5000), HUNDREDTHS(5290000), 0, "place 1 whole");
+        check_given(good_lot(SELL, 5001), HUNDREDTHS(5291057), 0, "one unit of place 2");
+        check_given(good_lot(SELL, 6000), HUNDREDTHS(6347000), 0, "place 2 in part");
+        check_given(good_lot(SELL, 12000), HUNDREDTHS(12680000), 0, "all bids");
+        check_given(good_lot(SELL, 12001), HUNDREDTHS(12680000), 1, "one unit left");
+        check_given(good_lot(SELL, SELKAVORN_LARGEST_LOT), HUNDREDTHS(12680000), 999987999,
+                    "much left");
+        check_given(good_lot(BUY, 1), HUNDREDTHS(1103), 0, "a unit bought");
+        check_given(good_lot(BUY, 7001), HUNDREDTHS(7720950), 0, "a price below 0");
+        check_given(good_lot(BUY, 9001), HUNDREDTHS(7621000), 1, "one unit not bought");
         open_with_rows(depth, none, offers);
         check_given(good_lot(SELL, 6000), 0, 6000, "no bids");
-        check_given(good_lot(BUY, 7000), 772100000000, 0, "offers alone");
+        check_given(good_lot(BUY, 7000), HUNDREDTHS(7721000), 0, "offers alone");
         open_with_rows(depth, bids, none);
         check_given(good_lot(BUY, SELKAVORN_LARGEST_LOT), 0, SELKAVORN_LARGEST_LOT, "no offers");
-        check_given(good_lot(SELL, 9000), 951800000000, 0, "bids alone");
+        check_given(good_lot(SELL, 9000), HUNDREDTHS(9518000), 0, "bids alone");
     }
     feed(&first, SELKAVORN_DONE, 1, "bid deleted",
          "35=X|34=2|52=20250103-13:00:60|268=1|" DELETE_BID);
@@ -898,7 +921,7 @@ static void test_lot(void)
     check_equal(numbers[SELKAVORN_LOT_NUMBER], 2, "H");
     check_equal(numbers[SELKAVORN_LOT_HEARD_DATE], 20250103, "the heard date");
     check_equal(numbers[SELKAVORN_LOT_HEARD_TIME], 130060000, "a second of 60 stays 60");
-    check_equal(numbers[SELKAVORN_LOT_SUM], 105700000, "what is place 1 now");
+    check_equal(numbers[SELKAVORN_LOT_SUM], HUNDREDTHS(1057), "what is place 1 now");
     end();
 }
 
@@ -915,39 +938,43 @@ static const struct {
     int64_t sum;
     uint64_t left;
 } fitting[] = {
-    {{"2^63 - 1", {{"6024.7241209", 153092023}}, 153092023}, INT64_MAX, 0},
-    {{"2^63 - 1, and more left", {{"6024.7241209", 153092023}}, 153092024}, INT64_MAX, 1},
-    {{"2^63 - 1, the place cut", {{"6024.7241209", 999999999999}}, 153092023}, INT64_MAX, 0},
-    {{"2^63 - 2^34", {{"1717.9869184", 536870912}}, 536870911}, 9223372019674906624, 0},
-    {{"-2^63", {{"-1717.9869184", 536870912}}, 536870912}, INT64_MIN, 0},
-    {{"-2^63, and more left", {{"-1717.9869184", 536870912}}, 536870913}, INT64_MIN, 1},
-    {{"a unit from below", {{"-7715.8673929", 119537721}}, 119537720}, -9223371959696101880, 0},
-    {{"2^63 - 1 at place 2", {{"1717.9869184", 536870911}, {"1717.9869183", 9}}, 536870912},
+    {{"2^63 - 1", {{"602.47241209", 153092023}}, 153092023}, INT64_MAX, 0},
+    {{"2^63 - 1, and more left", {{"602.47241209", 153092023}}, 153092024}, INT64_MAX, 1},
+    {{"2^63 - 1, the place cut", {{"602.47241209", 999999999999}}, 153092023}, INT64_MAX, 0},
+    {{"2^63 - 2^34", {{"171.79869184", 536870912}}, 536870911}, 9223372019674906624, 0},
+    {{"-2^63", {{"-171.79869184", 536870912}}, 536870912}, INT64_MIN, 0},
+    {{"-2^63, and more left", {{"-171.79869184", 536870912}}, 536870913}, INT64_MIN, 1},
+    {{"a unit from below", {{"-771.58673929", 119537721}}, 119537720}, -9223371959696101880, 0},
+    {{"2^63 - 1 at place 2", {{"171.79869184", 536870911}, {"171.79869183", 9}}, 536870912},
      INT64_MAX, 0},
-    {{"-2^63 at place 2", {{"-1717.9869184", 536870911}, {"-1717.9869184", 9}}, 536870912},
+    {{"-2^63 at place 2", {{"-171.79869184", 536870911}, {"-171.79869184", 9}}, 536870912},
      INT64_MIN, 0},
-    {{"a product of 2^63", {{"-0.0000001", 1}, {"1717.9869184", 536870912}}, 536870913},
+    {{"a product of 2^63", {{"-0.00000001", 1}, {"171.79869184", 536870912}}, 536870913},
      INT64_MAX, 0},
-    {{"a product of -2^63 - 1", {{"0.0000001", 1}, {"-7715.8673929", 119537721}}, 119537722},
+    {{"a product of -2^63 - 1", {{"0.00000001", 1}, {"-771.58673929", 119537721}}, 119537722},
      INT64_MIN, 0},
-    {{"a product of 2^64 - 2^28", {{"-1717.9869184", 536870912}, {"6871.9476735", 268435456}},
+    {{"a product of 2^64 - 2^28", {{"-171.79869184", 536870912}, {"687.19476735", 268435456}},
       805306368},
      9223372036586340352, 0},
-    {{"922 units of the highest price", {{"999999999.9999999", 999999999999}}, 922},
-     9219999999999999078, 0}};
+    {{"92 units of the highest price", {{"999999999.99999999", 999999999999}}, 92},
+     92 * HIGHEST_PRICE, 0},
+    {{"92 units of the lowest price", {{"-999999999.99999999", 999999999999}}, 92},
+     -92 * HIGHEST_PRICE, 0}};
 
 static const struct aimed over[] = {
-    {"past 2^63 - 1", {{"6024.7241209", 999999999999}}, 153092024},
-    {"2^63", {{"1717.9869184", 536870912}}, 536870912},
-    {"2^63, and more left", {{"1717.9869184", 536870912}}, 999999999},
-    {"-2^63 - 1", {{"-7715.8673929", 119537721}}, 119537721},
-    {"2^63 at place 2", {{"1717.9869184", 536870911}, {"1717.9869184", 9}}, 536870912},
-    {"-2^63 - 1 at place 2", {{"-1717.9869184", 536870911}, {"-1717.9869185", 9}}, 536870912},
-    {"out above and back", {{"1717.9869184", 536870912}, {"-0.0000001", 5}}, 536870913},
-    {"out below and back", {{"-1717.9869184", 536870912}, {"-0.0000001", 1}, {"0.0000001", 5}},
+    {"past 2^63 - 1", {{"602.47241209", 999999999999}}, 153092024},
+    {"2^63", {{"171.79869184", 536870912}}, 536870912},
+    {"2^63, and more left", {{"171.79869184", 536870912}}, 999999999},
+    {"-2^63 - 1", {{"-771.58673929", 119537721}}, 119537721},
+    {"2^63 at place 2", {{"171.79869184", 536870911}, {"171.79869184", 9}}, 536870912},
+    {"-2^63 - 1 at place 2", {{"-171.79869184", 536870911}, {"-171.79869185", 9}}, 536870912},
+    {"out above and back", {{"171.79869184", 536870912}, {"-0.00000001", 5}}, 536870913},
+    {"out below and back", {{"-171.79869184", 536870912}, {"-0.00000001", 1}, {"0.00000001", 5}},
      536870914},
-    {"923 units of the highest price", {{"999999999.9999999", 999999999999}}, 923},
-    {"the largest lot of the lowest price", {{"-999999999.9999999", 999999999999}}, 999999999}};
+    {"93 units of the highest price", {{"999999999.99999999", 999999999999}}, 93},
+    {"93 units of the lowest price", {{"-999999999.99999999", 999999999999}}, 93},
+    {"the largest lot of the highest price", {{"999999999.99999999", 999999999999}}, 999999999},
+    {"the largest lot of the lowest price", {{"-999999999.99999999", 999999999999}}, 999999999}};
 
 static void test_lot_bounds(void)
 {
@@ -1024,7 +1051,6 @@ static void test_summary(void)
 
 /* ---- loops of snapshots ---- */
 
-enum { LAYOUT_AT = 0, OLDER_LAYOUT = 4601 };
 struct record {
     uint64_t numbers[RECORD_NUMBERS];
 };
@@ -1392,8 +1418,6 @@ static void test_loop_store(void)
         check_equal(summary(&first, SELKAVORN_BOARD_NUMBERS), SELKAVORN_STORE, "a spare number");
         store_of(&first)[i] = 0;
     }
-    store_of(&first)[LAYOUT_AT] = OLDER_LAYOUT;
-    check_refused_store("a store of the layout before");
     open_options();
     set_record((struct record){{LARGEST, LARGEST - 2, 4, 0}});
     feed_turn(LARGEST - 1, LARGEST, OTHER, 5, SELKAVORN_SNAPSHOT_UNFOLLOWED, 3, "all but one");
@@ -1462,7 +1486,7 @@ static void open_longest(void)
     size_t n = 0;
     for (int i = 0; i < 40; i++)
         n += (size_t)snprintf(entries + n, sizeof entries - n,
-                              "269=%d|270=-999999999.9999999|271=999999999999|37=ABCDEFGHIJKLMNOP|"
+                              "269=%d|270=-999999999.99999999|271=999999999999|37=ABCDEFGHIJKLMNOP|"
                               "272=20250103|273=12:59:58.250|290=%d|",
                               i / 20, i % 20 + 1);
     fresh(&first);
@@ -1471,6 +1495,9 @@ static void open_longest(void)
     make("35=W|34=1|" AT "48=999999999999999999|22=8|369=4294967295|911=1|268=40|%s", entries);
     feed_made(&first, SELKAVORN_TAKEN, 0, "40 places");
 }
+
+_Static_assert(SELKAVORN_SHORTEST_WRITING == 104 && SELKAVORN_LONGEST_WRITING == 4307,
+               "the bounds of a writing");
 
 static void test_writing(void)
 {
@@ -1524,17 +1551,97 @@ static void test_round_trip(void)
     check_round_trip(SELKAVORN_ORDER_DEPTH, 2);
     open_fresh(&first, SELKAVORN_PRICE_DEPTH);
     feed(&first, SELKAVORN_TAKEN, 1, "369 = 0", EMPTY_W, 7, 0);
-    make("35=X|34=1|" AT "268=1|279=0|269=1|48=7|22=8|270=-0.0000001|271=1|346=65535|"
+    make("35=X|34=1|" AT "268=1|279=0|269=1|48=7|22=8|270=-0.00000001|271=1|346=65535|"
          "272=00000229|273=23:59:60|290=1|");
     feed_made(&first, SELKAVORN_DONE, 1, "a price place");
     check_round_trip(SELKAVORN_PRICE_DEPTH, 1);
     check_equal(quote(&first, 7, "20250103-13:00:00", 0, 17), SELKAVORN_DONE, "price depth");
     const uint64_t *offer = numbers + SELKAVORN_QUOTE_OFFER;
-    check_equal(offer[SELKAVORN_SIDE_PRICE], UINT64_MAX, "one ten-millionth below 0");
+    check_equal(offer[SELKAVORN_SIDE_PRICE], UINT64_MAX, "one hundred-millionth below 0");
     check_equal(offer[SELKAVORN_SIDE_BY], 65535, "the number of orders");
     check_equal(offer[SELKAVORN_SIDE_MORE], 0, "no more of it");
     check_equal(offer[SELKAVORN_SIDE_DATE], 229, "29 February 0000");
     check_equal(offer[SELKAVORN_SIDE_TIME], 235960000, "a second of 60 stays 60");
+    end();
+}
+
+/* Prices as they are read, in hundred-millionths, and as they are written; first M1 to M3 of
+ * documents 01 and 02. */
+static const struct {
+    const char *read;
+    int64_t price;
+    const char *written;
+} prices[] = {{"24.01", 2401000000, "24.01"},
+              {"-0.5", -50000000, "-0.5"},
+              {"-0", 0, "0"},
+              {"-0.00000000", 0, "0"},
+              {"7", 700000000, "7"},
+              {"000000007.50000000", 750000000, "7.5"},
+              {"1.23456789", 123456789, "1.23456789"},
+              {"-1.23456789", -123456789, "-1.23456789"},
+              {"0.00000001", 1, "0.00000001"},
+              {"-0.00000001", -1, "-0.00000001"},
+              {"10.00000010", 1000000010, "10.0000001"},
+              {"999999999", 99999999900000000, "999999999"},
+              {"999999999.99999999", 99999999999999999, "999999999.99999999"},
+              {"-999999999.99999999", -99999999999999999, "-999999999.99999999"}};
+
+/* M4 of document 02, and others that are no price. */
+static const char *const no_prices[] = {
+    "1.", "1.234567891", "-1.234567891", "0.000000000", "0.000000001", "999999999.999999999",
+    "1000000000", "0000000001", "-1000000000", "1000000000.1", ".5", "-.5", "-", ".", "+1", "--1",
+    "1.5.", "1,5", "1e3", "1.2345678A", "1.-5", " 1", "1 "};
+
+/* A bid of 7 at place 1, of either depth kind. */
+#define PRICED "269=0|270=%s|271=12|37=A|346=1|" STAMP "290=1|"
+
+/* Asks the first board for the quote of 7, whose bid must have this price, and for a unit of it. */
+static void check_price(int64_t price, const char *what)
+{
+    check_equal(quote(&first, 7, "20250103-13:00:00", 0, 17), SELKAVORN_DONE, what);
+    check_equal(numbers[SELKAVORN_QUOTE_BID + SELKAVORN_SIDE_PRICE], (uint64_t)price, what);
+    check_lot(good_lot(SELL, 1), SELKAVORN_DONE, what);
+    check_equal(numbers[SELKAVORN_LOT_SUM], (uint64_t)price, what);
+}
+
+/* The book of 7 must be written with this price, and nothing else in its place. */
+static void check_written(const char *price)
+{
+    char field[40];
+    struct writing w = {7, "SHED", "YARD", 1, 2, "20250103-13:00:00", BYTES_ROOM};
+    uint64_t answered = write_book(&first, w);
+    snprintf(field, sizeof field, "\001270=%s\001", price);
+    check_equal(SELKAVORN_ANSWER(answered), SELKAVORN_DONE, price);
+    check(has_field(bytes, (size_t)SELKAVORN_LENGTH(answered), field), price);
+}
+
+static void test_prices(void)
+{
+    static const rows none = {{NULL, 0}};
+    begin("prices");
+    for (size_t i = 0; i < sizeof prices / sizeof *prices; i++) {
+        const rows bid = {{prices[i].read, 12}};
+        open_with_rows(i % 2, bid, none);
+        check_price(prices[i].price, prices[i].read);
+        check_given(good_lot(SELL, 12), 12 * prices[i].price, 0, prices[i].read);
+        check_written(prices[i].written);
+        check_round_trip(i % 2, 1);
+        open_with_rows(i % 2, none, bid);
+        check_given(good_lot(BUY, 12), 12 * prices[i].price, 0, prices[i].read);
+        feed(&first, SELKAVORN_DONE, 1, prices[i].read,
+             "35=X|34=2|" AT "268=1|279=0|48=7|22=8|" PRICED, prices[i].read);
+        check_price(prices[i].price, prices[i].read);
+        check_written(prices[i].written);
+        check_round_trip(i % 2, 2);
+    }
+    open_with_book(&first);
+    for (size_t i = 0; i < sizeof no_prices / sizeof *no_prices; i++) {
+        feed(&first, SELKAVORN_FIELDS, 1, no_prices[i],
+             "35=X|34=2|" AT "268=1|279=1|48=7|22=8|" PRICED, no_prices[i]);
+        feed(&first, SELKAVORN_FIELDS, 1, no_prices[i],
+             "35=W|34=1|" AT "48=9|22=8|369=1|911=2|268=1|" PRICED, no_prices[i]);
+    }
+    check_price(HUNDREDTHS(2401), "the book is as it was");
     end();
 }
 
@@ -1754,6 +1861,7 @@ int main(void)
     test_queue();
     test_messages();
     test_store();
+    test_layouts();
     test_quote_arguments();
     test_quote();
     for (enum way way = SELL; way < WAYS; way++) {
@@ -1776,6 +1884,7 @@ int main(void)
     test_writing_arguments();
     test_writing();
     test_round_trip();
+    test_prices();
     test_walk_arguments();
     test_walk();
     test_cut();

@@ -46,7 +46,7 @@ check "sell: an empty book of a whole loop" prints 0 "Left to sell: 3 of 3. The 
 check "sell: how often that came" prints 0 "Empty books taken at the end of whole loops of snapshots: 2." \
     sell --quantity 3 --instrument "$empty_call" "$options"
 check "snapshot: an empty book of a whole loop" prints 0 "369=12" snapshot --instrument "$empty_call" --sender HUT --target YARD "$options"
-check "loops: an instrument that the channel does not have" prints 0 "7                  bid                empty            - 20250103-12:02:30.750" \
+check "loops: an instrument that the channel does not have" prints 0 "7                  bid                 empty            - 20250103-12:02:30.750" \
     replay --instruments 7 "$options"
 
 # ---- single loops ----

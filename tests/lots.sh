@@ -2,7 +2,7 @@
 # lots.sh: the tests of selkavorn sell and buy. scripts/test-c reads it, and has check, ends, prints, fills_up, $work and the names of
 # recordings and instruments.
 lots=target/c/lots.fix
-spread=3809701 bounds=3810999 widest=999999999999999999
+spread=3809701 bounds=3810999 currency=3811205 widest=999999999999999999
 no_sum="no lot: a sum does not fit 64 bits"
 
 # lot STATUS TEXT COMMAND ARGUMENTS..: whether sell or buy ends with this status and prints the text samples/TEXT, and nothing on
@@ -148,8 +148,8 @@ for name in ("morning-sell", "lots-widest-sell", "lots-empty-buy"):
 morning-sell 1 2549.2 4777.7 0 318.513333333333 no 20250103-12:15:17.045
 morning-sell 2 1274.2 4777.7 0 318.513333333333 no 20250103-12:15:17.045
 morning-sell 3 954.3 4777.7 0 318.513333333333 no 20250103-12:15:17.045
-lots-widest-sell 1 921999999999.9999078 -921999999999.9999078 0 -333333333.3333333 yes 20250103-12:00:10.000
-lots-widest-sell 2 -1843999999999.9998156 -921999999999.9999078 0 -333333333.3333333 yes 20250103-12:00:10.000
+lots-widest-sell 1 91999999999.99999908 -91999999999.99999908 0 -333333333.33333333 yes 20250103-12:00:10.000
+lots-widest-sell 2 -183999999999.99999816 -91999999999.99999908 0 -333333333.33333333 yes 20250103-12:00:10.000
 lots-empty-buy   0 12   20250103-12:00:10.000
 R
 }
@@ -163,7 +163,7 @@ done
 check "sell: lots, 20 places" lot 0 lots-sell.expected sell --depth price --quantity 2000 --instrument "$coffee" --now 20250103-12:00:12 "$lots"
 check "sell: lots, prices below zero" lot 0 lots-spread-sell.expected sell --depth price --quantity 7 --instrument "$spread" "$lots"
 check "buy: lots, the largest lot" lot 0 lots-spread-buy.expected buy --depth price --quantity 999999999 --instrument "$spread" "$lots"
-check "sell: lots, the widest amounts" lot 0 lots-widest-sell.expected sell --depth price --quantity 2766 --instrument "$widest" "$lots"
+check "sell: lots, the widest amounts" lot 0 lots-widest-sell.expected sell --depth price --quantity 276 --instrument "$widest" "$lots"
 check "buy: lots, an empty side" lot 0 lots-empty-buy.expected buy --depth price --quantity 12 --instrument "$coffee" "$lots"
 for form in csv json; do
     check "sell: lots, 20 places, --$form" lot 0 "lots-sell.$form" \
@@ -171,24 +171,31 @@ for form in csv json; do
     check "sell: lots, prices below zero, --$form" lot 0 "lots-spread-sell.$form" \
         sell "--$form" --depth price --quantity 7 --instrument "$spread" "$lots"
     check "sell: lots, the widest amounts, --$form" lot 0 "lots-widest-sell.$form" \
-        sell "--$form" --depth price --quantity 2766 --instrument "$widest" "$lots"
+        sell "--$form" --depth price --quantity 276 --instrument "$widest" "$lots"
     check "buy: lots, an empty side, --$form" lot 0 "lots-empty-buy.$form" buy "--$form" --depth price --quantity 12 --instrument "$coffee" "$lots"
 done
 check "sell: standard input, a file" lot 0 morning-sell.expected sell --quantity 15 --instrument "$coffee" - <"$morning"
 cat "$morning" >"$work/pipe" &
 check "sell: standard input, a pipe" lot 0 morning-sell.expected sell --quantity 15 --instrument "$coffee" - <"$work/pipe"
 check "sell and buy: one unit is the quote" a_unit_is_the_quote
+check "sell: a currency contract" prints 0 "    1       500          1.23456789             617.283945 20250103-12:00:00.000" \
+    sell --quantity 500 --instrument "$currency" target/c/wide.fix
+check "buy: a currency contract" prints 0 "    1         1           1.2345679              1.2345679 20250103-12:00:00.000" \
+    buy --quantity 1 --instrument "$currency" target/c/wide.fix
+check "sell: the lowest price" prints 0 "    1         1 -999999999.99999999    -999999999.99999999 20250103-12:00:00.000" \
+    sell --quantity 1 --instrument "$widest" target/c/wide.fix
 
 # The bounds of a sum.
-check "sell: the largest sum" of_lots 0 " 922337203685.4775807 20250103-12:00:10.000" sell 1001 "$bounds"
+check "sell: the largest sum" of_lots 0 " 92233720368.54775807 20250103-12:00:10.000" sell 1001 "$bounds"
 check "sell: one unit more does not fit" of_lots 4 "$bounds            $no_sum" sell 1002 "$bounds"
-check "buy: the lowest sum" of_lots 0 " -922337203685.4775808 20250103-12:00:10.000" buy 1001 "$bounds"
+check "buy: the lowest sum" of_lots 0 " -92233720368.54775808 20250103-12:00:10.000" buy 1001 "$bounds"
 check "buy: one unit more does not fit" of_lots 4 "$bounds            $no_sum" buy 1002 "$bounds"
-check "buy: a place that does not fit" of_lots 4 "$widest $no_sum" buy 923 "$widest"
-check "buy: a sum between that does not fit" of_lots 4 "$widest $no_sum" buy 1846 "$widest"
-check "buy: what to do then" of_lots 4 "Ask for a smaller lot." buy 1846 "$widest"
-check "buy: a sum that does not fit, --csv" of_lots 4 ',35,"a sum does not fit 64 bits",buy,1846,,,,,,,,,20250103-12:00:10.000,3,0,' buy 1846 "$widest" --csv
-check "buy: a sum that does not fit, --json" of_lots 4 '"answer": 35, "why": "a sum does not fit 64 bits"' buy 1846 "$widest" --json
+check "buy: a place that does not fit" of_lots 4 "$widest $no_sum" buy 93 "$widest"
+check "buy: a sum between that does not fit" of_lots 4 "$widest $no_sum" buy 186 "$widest"
+check "sell: the largest lot at the widest prices" of_lots 4 "$widest $no_sum" sell 999999999 "$widest"
+check "buy: what to do then" of_lots 4 "Ask for a smaller lot." buy 186 "$widest"
+check "buy: a sum that does not fit, --csv" of_lots 4 ',35,"a sum does not fit 64 bits",buy,186,,,,,,,,,20250103-12:00:10.000,3,0,' buy 186 "$widest" --csv
+check "buy: a sum that does not fit, --json" of_lots 4 '"answer": 35, "why": "a sum does not fit 64 bits"' buy 186 "$widest" --json
 
 # Refusals.
 check "sell: Waiting" prints 4 "$cattle            no lot: Waiting, no snapshot since opening or the last gap" \
