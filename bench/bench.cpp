@@ -358,19 +358,44 @@ void measure_loops(Depth depth, const Measure &measure) {
     for (size_t i = 0; i < ends.size(); i++) check_same(c, ends[i], "the plain board", seen(plains[i]));
 }
 
-// A store whose 640 places hold order ids of this kind.
-Store filled(Ids ids) {
-    const Stream stream = make_stream(ORDER_DEPTH, 0, 1, ids);
+// A store or a board that has taken the snapshots of a stream, so that all 640 places are used.
+template <typename Keeper> Keeper filled(Keeper keeper, const Stream &stream) {
+    for (const std::string &w : stream.snapshots) take(keeper, w);
+    return keeper;
+}
+
+Store filled_store(Depth depth, const Stream &stream) {
     Store store;
-    open(store, ORDER_DEPTH, stream.ids);
-    for (const std::string &w : stream.snapshots) take(store, w);
-    return store;
+    open(store, depth, stream.ids);
+    return filled(store, stream);
+}
+
+// Feeding entries whose prices have 9 digits and 8 decimals. QuickFIX's board holds a price as a double, which has too few digits for
+// them, so it has no row.
+void measure_prices(Depth depth, const Measure &measure) {
+    const Case c = {depth, 0, 0};
+    const int entries = 10; // of an X
+    const Stream stream = make_stream(depth, ENTRIES_A_ROUND / entries, entries, LONG_IDS, LONG_PRICES);
+    const std::vector<std::string> &xs = stream.changes;
+    const Store full = filled_store(depth, stream);
+    const plain_board plain_full = filled(opened(depth, stream.ids), stream);
+    Copies<Store> stores(full);
+    Copies<plain_board> plains(plain_full);
+    std::vector<Measured> all = {
+        {columns(c, mean_length(xs), "long prices"), xs.size(), [&] { stores.next(full); },
+         for_each(xs, [&](const std::string &x) { return feed(*stores, x) == SELKAVORN_DONE; }), {}},
+        {columns(c, mean_length(xs), "plain long prices"), xs.size(), [&] { plains.next(plain_full); },
+         for_each(xs, [&](const std::string &x) { return feed(*plains, x) == SELKAVORN_DONE; }), {}},
+    };
+    measure(all);
+    check_same(c, *stores, "the plain board", seen(*plains));
 }
 
 // The scan by the order ids that a store holds, and the bare loops, each round at one place in memory.
 void measure_scans(const Measure &measure) {
     const Case c = {ORDER_DEPTH, 0, 0};
-    const Store uniform = filled(LONG_IDS), mixed = filled(MIXED_IDS);
+    const Store uniform = filled_store(ORDER_DEPTH, make_stream(ORDER_DEPTH, 0, 1, LONG_IDS)),
+                mixed = filled_store(ORDER_DEPTH, make_stream(ORDER_DEPTH, 0, 1, MIXED_IDS));
     Copies<Store> stores(uniform);
     auto nothing = [] {};
     auto scans = again([&] { return scan((*stores).data()); });
@@ -550,6 +575,7 @@ int main(int argc, char **argv) {
             for (int entries : {1, 4, 10, 64}) measure_case({depth, entries, waiting}, dictionary, measure);
     for (Depth depth : {ORDER_DEPTH, PRICE_DEPTH}) {
         measure_others(depth, dictionary, measure);
+        measure_prices(depth, measure);
         measure_loops(depth, measure);
     }
     measure_scans(measure);

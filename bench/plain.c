@@ -13,7 +13,8 @@
 #define LARGEST_ID UINT64_C(999999999999999999)
 #define LARGEST_SIZE UINT64_C(999999999999)
 
-enum { SHORTEST = 26, SHORTEST_BODY = 5, TRAILER = 7, MOST_ENTRIES = 64, MOST_DIGITS = 18 };
+enum { SHORTEST = 26, SHORTEST_BODY = 5, TRAILER = 7, MOST_ENTRIES = 64, MOST_DIGITS = 18, DECIMALS = 8 };
+_Static_assert(SELKAVORN_PRICE_UNIT == 100000000, "a price has as many decimals as its unit has zeros");
 enum action { NEW, CHANGE, DELETE, DELETE_THRU, DELETE_FROM };
 
 /* ---- fields ---- */
@@ -114,7 +115,7 @@ static bool whole(const struct fields *in, enum slot slot, uint64_t least, uint6
     return value >= least && value <= most;
 }
 
-/* 270: optional minus, 1 to 9 digits, then nothing or a point and 1 to 7 digits. */
+/* 270: optional minus, 1 to 9 digits, then nothing or a point and 1 to 8 digits. */
 static bool read_price(struct text text, int64_t *price)
 {
     const uint8_t *p = text.at, *const end = text.at + text.n;
@@ -131,11 +132,11 @@ static bool read_price(struct text text, int64_t *price)
     if (p < end) {
         if (*p++ != '.' || p == end) return false;
         for (; p < end; p++, decimals++) {
-            if (decimals == 7 || !is_digit(*p)) return false;
+            if (decimals == DECIMALS || !is_digit(*p)) return false;
             value = 10 * value + (*p - '0');
         }
     }
-    for (; decimals < 7; decimals++) value *= 10;
+    for (; decimals < DECIMALS; decimals++) value *= 10;
     *price = minus ? -value : value;
     return true;
 }

@@ -16,7 +16,7 @@ enum plain_kind { PLAIN_BID, PLAIN_OFFER, PLAIN_EMPTY, PLAIN_PASSED };
 
 /* A place of a side: as many bytes as in a store. */
 struct plain_place {
-    int64_t price;     /* 270 in ten-millionths */
+    int64_t price;     /* 270 in hundred-millionths */
     uint64_t size;     /* 271 */
     uint64_t by, more; /* bytes 1 to 8 and 9 to 16 of 37, low byte first; or 346 and 0 */
     uint32_t date;     /* 272, YYYYMMDD */

@@ -33,6 +33,8 @@ RATIOS = ((("feed", "parse"), ("feed", "book"), ("beyond", "plain"), ("scan", "l
           (("feed", "parse"), ("feed", "book"), ("scan", "loop")))
 OTHER_ROWS = (("open", "open, 16 instruments"), ("snapshot", "feed, a snapshot of 40 entries, {bytes:,} bytes"),
               ("plain snapshot", "the same, plain C reader"), ("QuickFIX snapshot", "the same, QuickFIX with its book"),
+              ("long prices", "feed, 10 entries with prices of 9 digits and 8 decimals, {bytes:,} bytes"),
+              ("plain long prices", "the same, plain C reader"),
               ("loop end", "feed, a snapshot of 40 entries that ends a loop, 15 others go Live, {bytes:,} bytes"),
               ("plain loop end", "the same, plain C reader"), ("loop goes on", "feed, the same where the loop goes on"),
               ("quote", "quote"), ("sell", "sell, 1 unit"), ("sell, 20 places", "sell, 20 places"), ("write", "write, 40 places"),
@@ -77,6 +79,9 @@ NOTES = """\
   replayed, and the queue is let go. The four calls of a round have a store each, which is put back before the round; that is not timed.
   Where the loop goes on, the same snapshot is the second of three, and the 15 still wait: the difference is what the end takes.
   QuickFIX's board has neither loops nor a queue, so it has no row; with the plain board all books are compared.
+- Prices have 3 digits and 2 decimals. Where they have 9 digits and 8 decimals, half are below 0, and all else of the stream is drawn
+  alike: beside the feed of 10 entries it shows what longer prices take. QuickFIX's board holds a price as a double, which has too few
+  digits for these, so it has no row; with the plain board all books are compared.
 - `sell` is `selkavorn_sell` of the store and the instrument that are quoted, which has 20 bids: a lot of 1 unit, which takes place 1
   alone, and one of as many units as all bids have, which takes the 20 places whole. It scans the store and makes the quote first, as
   `quote` does. Before it is timed, the books are compared, and all numbers of both lots with what the plain reader's places bring;

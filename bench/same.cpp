@@ -22,6 +22,7 @@ uint64_t digits(const std::string &text) {
     return value;
 }
 
+// A price of few digits, as those that QuickFIX's board is given have, is exact when a double is rounded to the unit.
 SeenPlace seen(const PeerEntry &e) {
     return {std::llround(e.price * SELKAVORN_PRICE_UNIT), static_cast<uint64_t>(std::llround(e.size)), e.order,
             static_cast<uint64_t>(e.orders), digits(e.date), digits(e.time)};
@@ -75,7 +76,8 @@ std::vector<uint64_t> expected_lot(const SeenBoard &board, const SeenBook &book,
 
 // A price without needless zero, point or minus.
 std::string price_text(int64_t price) {
-    std::string rest = padded(std::llabs(price) % SELKAVORN_PRICE_UNIT, 7);
+    static const size_t decimals = std::to_string(SELKAVORN_PRICE_UNIT).size() - 1;
+    std::string rest = padded(std::llabs(price) % SELKAVORN_PRICE_UNIT, decimals);
     rest.erase(rest.find_last_not_of('0') + 1);
     return (price < 0 ? "-" : "") + std::to_string(std::llabs(price) / SELKAVORN_PRICE_UNIT) + (rest.empty() ? "" : "." + rest);
 }

@@ -8,7 +8,7 @@
 #include "store.hpp"
 #include "streams.hpp"
 
-// A board in the words of the header, whoever keeps it: prices in ten-millionths, dates as YYYYMMDD, times as HHMMSSmmm.
+// A board in the words of the header, whoever keeps it: prices in hundred-millionths, dates as YYYYMMDD, times as HHMMSSmmm.
 struct SeenPlace {
     int64_t price;
     uint64_t size;

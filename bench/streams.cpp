@@ -16,6 +16,7 @@ std::string head(unsigned number, Draw &draw) {
 struct Kind {
     Depth depth;
     Ids ids;
+    Prices prices;
 };
 
 std::string order_id(Ids ids, Draw &draw) {
@@ -23,9 +24,15 @@ std::string order_id(Ids ids, Draw &draw) {
     return (is_short ? "" : "79900") + padded(draw.below(100000), 5);
 }
 
+std::string drawn_price(Prices prices, Draw &draw) {
+    if (prices == SHORT_PRICES) return std::to_string(300 + draw.below(50)) + "." + padded(draw.below(100), 2);
+    const std::string minus = draw.below(2) == 0 ? "-" : "", digits = std::to_string(100000000 + draw.below(900000000));
+    return minus + digits + "." + padded(draw.below(100000000), 8);
+}
+
 // Price, size, order id or number of orders, date and time.
 std::string values(Kind kind, Draw &draw) {
-    std::string price = std::to_string(300 + draw.below(50)) + "." + padded(draw.below(100), 2);
+    std::string price = drawn_price(kind.prices, draw);
     std::string by = kind.depth == ORDER_DEPTH ? field(37, order_id(kind.ids, draw)) : field(346, std::to_string(1 + draw.below(99)));
     return field(270, price) + field(271, std::to_string(1 + draw.below(5000))) + by + field(272, "20250103") +
            field(273, time_of_day(draw));
@@ -108,8 +115,8 @@ std::string message(char type, const std::string &fields) {
     return bytes + field(10, padded(sum % 256, 3));
 }
 
-Stream make_stream(Depth depth, int messages, int entries, Ids ids) {
-    const Kind kind = {depth, ids};
+Stream make_stream(Depth depth, int messages, int entries, Ids ids, Prices prices) {
+    const Kind kind = {depth, ids, prices};
     Draw draw;
     Stream stream;
     Held held;
@@ -124,7 +131,7 @@ Stream make_stream(Depth depth, int messages, int entries, Ids ids) {
 }
 
 Loop make_loop(Depth depth, int messages, int entries, int reports) {
-    const Kind kind = {depth, LONG_IDS};
+    const Kind kind = {depth, LONG_IDS, SHORT_PRICES};
     Draw draw;
     Loop loop;
     Held held = {};

@@ -12,6 +12,9 @@ enum Depth { ORDER_DEPTH = 0, PRICE_DEPTH = 1 };
 // Order ids: all of 10 bytes, or some of 10 and some of 5, drawn evenly.
 enum Ids { LONG_IDS, MIXED_IDS };
 
+// Prices: of 3 digits and 2 decimals, or of 9 digits and 8 decimals, half of them below 0.
+enum Prices { SHORT_PRICES, LONG_PRICES };
+
 constexpr char SOH = '\1';
 
 // Numbers that look drawn, the same in every run (Knuth's multiplier, the upper half of the state).
@@ -49,7 +52,7 @@ std::string message(char type, const std::string &fields);
 
 // `messages` X of `entries` entries each. Instruments, sides and places are drawn evenly. At a side of 20 places an entry is a
 // change or a delete, at one of 19 a change or a new, each as often as the other, so that sides hold 19 or 20.
-Stream make_stream(Depth depth, int messages, int entries, Ids ids = LONG_IDS);
+Stream make_stream(Depth depth, int messages, int entries, Ids ids = LONG_IDS, Prices prices = SHORT_PRICES);
 
 // `messages` X of `entries` entries each, and a loop of `reports` snapshots. Instruments, sides and places are drawn evenly. At a side
 // without places an entry is a new, at a full one a change, else a change or a new, each as often as the other.

@@ -9,10 +9,10 @@ from report import CALLS, RECORDINGS, judged, page, verdict
 from results import EVEN, MIXED, SCANS, STARTS, STATES, Case, Recording, Run, cases, row_name, spread
 
 WHATS = ("feed", "scan", "loop", "plain", "parse", "validate", "book")
-OTHERS = ("open", "snapshot", "plain snapshot", "QuickFIX snapshot", "loop end", "plain loop end", "loop goes on", "quote", "sell",
-          "sell, 20 places", "write", "state")
+OTHERS = ("open", "snapshot", "plain snapshot", "QuickFIX snapshot", "long prices", "plain long prices", "loop end", "plain loop end",
+          "loop goes on", "quote", "sell", "sell, 20 places", "write", "state")
 SCAN_WHATS = ("scan", "mixed scan", "loop", "plain loop", "scalar loop")
-BYTES = {"loop end": 172}  # of a message; all others have 171
+BYTES = {"loop end": 172, "long prices": 173}  # of a message; all others have 171
 HEADERS = pathlib.Path(__file__).resolve().parent.parent / "include"
 
 
@@ -91,10 +91,19 @@ class Report(unittest.TestCase):
         rows = [[cell.strip() for cell in line.split("|")[1:3]] for line in text.splitlines()]
         at = rows.index(["price depth: the same, QuickFIX with its book", "100"])
         self.assertEqual(rows[at - 2], ["price depth: feed, a snapshot of 40 entries, 171 bytes", "100"])
-        self.assertEqual(rows[at + 1:at + 4],
+        self.assertEqual(rows[at + 3:at + 6],
                          [["price depth: feed, a snapshot of 40 entries that ends a loop, 15 others go Live, 172 bytes", "130"],
                           ["price depth: the same, plain C reader", "120"],
                           ["price depth: feed, the same where the loop goes on", "110"]])
+
+    def test_long_prices_have_rows_behind_the_snapshot(self):
+        prices = {"long prices": 130.0, "plain long prices": 120.0}
+        text = "\n".join(page("v1", [made(changed={(Case("price", 0, 0), what): [ns] * 3 for what, ns in prices.items()})]))
+        rows = [[cell.strip() for cell in line.split("|")[1:3]] for line in text.splitlines()]
+        at = rows.index(["price depth: the same, QuickFIX with its book", "100"])
+        self.assertEqual(rows[at + 1:at + 3],
+                         [["price depth: feed, 10 entries with prices of 9 digits and 8 decimals, 173 bytes", "130"],
+                          ["price depth: the same, plain C reader", "120"]])
 
     def test_lots_have_rows_behind_the_quote(self):
         lots = {(Case("price", 0, 0), "sell"): [110.0] * 3, (Case("price", 0, 0), "sell, 20 places"): [120.0] * 3}
