@@ -26,7 +26,7 @@ std::string order_id(Ids ids, Draw &draw) {
 
 std::string drawn_price(Prices prices, Draw &draw) {
     if (prices == SHORT_PRICES) return std::to_string(300 + draw.below(50)) + "." + padded(draw.below(100), 2);
-    const std::string minus = draw.below(2) == 0 ? "-" : "", digits = std::to_string(100000000 + draw.below(900000000));
+    const std::string minus = draw.below(2) == 0 ? "-" : "", digits = std::to_string(100000000 + draw.below(600000000));
     return minus + digits + "." + padded(draw.below(100000000), 8);
 }
 
