@@ -152,8 +152,8 @@ pub fn sweep(seed: u64) -> Vec<Call> {
     let mut feeds = later.iter().filter(|call| matches!(call, Call::Feed { .. })).cycle();
     let mut asks = later.iter().filter(is_ask).cycle();
     let singly = damage::just_outside(&store).into_iter().map(|change| vec![change]);
-    let at_once = damage::older_layouts().into_iter().chain(damage::loop_edges(&store));
-    for (i, changes) in singly.chain(at_once).enumerate() {
+    let layouts = damage::older_layouts().into_iter();
+    for (i, changes) in singly.chain(layouts).chain(damage::loop_edges(&store)).enumerate() {
         let ask = if i % 4 == 0 { asks.next() } else { None };
         for call in feeds.next().into_iter().chain(ask) {
             calls.push(Call::Damage { changes: changes.clone(), call: Box::new(call.clone()) });

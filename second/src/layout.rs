@@ -83,7 +83,7 @@ fn heading_words(channel: &Channel) -> [u64; HEADING] {
     let marks = channel.instruments.iter().enumerate().map(|(i, x)| u64::from(x.waiting) << i).sum();
     let [reports, come, lowest, named] = loop_words(channel);
     [
-        either(Flip::LayoutAsBefore, LAYOUT, OLDER_LAYOUTS[1]),
+        either(Flip::LayoutAsBefore, LAYOUT, OLDER_LAYOUTS[OLDER_LAYOUTS.len() - 1]),
         channel.depth as u64,
         channel.instruments.len() as u64,
         channel.h,
@@ -187,7 +187,8 @@ pub fn read(store: &[u64]) -> Option<Channel> {
 
 /// Takes over the numbers that a flip passes.
 fn pass_flipped(words: &mut [u64], store: &[u64]) {
-    for (flip, older) in [Flip::UnsoundFirst, Flip::UnsoundOlder].into_iter().zip(OLDER_LAYOUTS) {
+    let taken: [Flip; OLDER_LAYOUTS.len()] = [Flip::Unsound4601, Flip::Unsound4602];
+    for (flip, older) in taken.into_iter().zip(OLDER_LAYOUTS) {
         if on(flip) && store[AT_LAYOUT] == older {
             words[AT_LAYOUT] = older;
         }

@@ -125,13 +125,17 @@ fn round_trip() {
 }
 
 #[test]
-fn nine_decimals_are_14() {
+fn nine_decimals_and_ten_digits_are_14() {
     for text in ["1.123456789", "-0.000000001", "0.000000000", "999999999.999999999", "1000000000.99999999"] {
         assert_eq!(field::price(text.as_bytes()), None, "{text}");
         let mut keeper = opened(0);
+        let waiting = keeper.words();
         assert_eq!(keeper.feed(STORE, &w(text)), (14, 1), "{text}");
         assert_eq!(keeper.feed(STORE, &x(2, 0, text)), (14, 1), "{text}");
+        assert_eq!(keeper.words(), waiting, "{text}");
         assert_eq!(keeper.feed(STORE, &w("1")), (4, 0), "{text}");
+        let live = keeper.words();
         assert_eq!(keeper.feed(STORE, &x(2, 1, text)), (14, 0), "{text}");
+        assert_eq!(keeper.words(), live, "{text}");
     }
 }

@@ -27,7 +27,7 @@ within lo hi n = leb lo n && leb n hi
 abbrev pub momentFine : ℕ → Bool
 momentFine m = ltb m moments
 
--- 270: a price that 9 digits and the decimals can say.
+-- 270: a price that it can say.
 abbrev pub priceFine : ℤ → Bool
 priceFine p = ltb (natAbs p) top
 

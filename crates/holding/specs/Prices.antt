@@ -8,7 +8,7 @@ use lib.IntN.{ℤ, pos, negsuc}
 abbrev pub mostWholes : ℕ
 mostWholes = 9
 
--- and 1 to 8 after it (document 02, K6): what else is said of prices anywhere follows from these two
+-- and 1 to 8 after it (document 02, K6): unit, ranges and texts of prices follow from these two
 abbrev pub mostDecimals : ℕ
 mostDecimals = 8
 

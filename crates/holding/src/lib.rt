@@ -1,9 +1,10 @@
-// The numbers that hold a price, a moment and an order id, each an index of one contiguous range, so that what is held is sound
-// by comparisons alone (document 01: "All books live in one lent run of 64-bit numbers").
+// The digits of a price and what follows from them, and the numbers that hold a price, a moment and an order id, each an index of
+// one contiguous range, so that what is held is sound by comparisons alone (document 01: "All books live in one lent run of 64-bit
+// numbers").
 ghost use mathlib.Core.Path.{_≡_};
 ghost use Rattle.holding.specs.Prices.{heldOf, ofHeld};
 
-// The digits of tag 270 before the point and after it.
+// The most digits of tag 270 before the point, and after it.
 pub const WHOLES: usize = 9;
 
 pub const DECIMALS: usize = 8;
@@ -22,11 +23,11 @@ const TENS: [u64; 10] = [
     1000000000,
 ];
 
-// A price of 1.
+// A price of 1, in hundred-millionths.
 pub const UNIT: u64 = TENS[DECIMALS];
 
 // The greatest number that holds a price of tag 270.
-pub const MOST_PRICE: u64 = (TENS[WHOLES] * UNIT - 1) * 2;
+pub const MOST_HELD: u64 = (TENS[WHOLES] * UNIT - 1) * 2;
 
 // The number that holds a price: 0 for 0, then 1 for the first below, 2 for the first above, and so on. Every number of
 // 64 bits holds one price, and the prices of tag 270 fill one range from 0.

@@ -1,5 +1,5 @@
-// Prices: tag 270 read to a signed whole number of units of the last decimal and written again without a needless zero, point or
-// minus (document 01, "Fields" 270 and "Quote and writing").
+// Prices: tag 270 read to a signed whole number of hundred-millionths and written again without a needless zero, point or
+// minus (document 01, "Fields" 270 and "Quote and writing"; document 02, K6).
 use digits::Number;
 use holding::DECIMALS;
 use holding::UNIT;
@@ -33,8 +33,8 @@ fn find(text: &[u8], x: u8) -> usize
     n
 }
 
-// Ten to the number of decimals that are missing. Of cases the compiler makes a table in the archive, of a constant array stores
-// at each call.
+// Ten to the number of decimals that are missing. By cases and not by `holding`'s constant array: of cases the compiler makes one
+// table, an array it stores at each call.
 fn scale(n: usize) -> u64
     requires { ⌜ n ≤ mostDecimals ⌝ }
     ensures { λ r. ⌜ r ≡ 10 ^ (mostDecimals - n) ⌝ }

@@ -1,7 +1,7 @@
 -- Lots computed: sides with so many units at a price, place 1 first.
 use mathlib.Core.Path.{_≡_}
 use mathlib.Core.List.{[], _∷_}
-use Prim.Native.Nat.{ℕ, _-_}
+use Prim.Native.Nat.{ℕ, _-_, _*_}
 use lib.IntN.{ℤ, pos, negsuc}
 use Rattle.holding.specs.Prices.{top}
 use Rattle.book.specs.declared.Entry.{Entry}
@@ -36,5 +36,5 @@ pub record LotCases : Type 0 where
   pub largest : lotOf 999999999 (of 999999999 (pos (top - 1)) ∷ []) ≡ Lot.Over
   pub smallest : lotOf 999999999 (of 999999999 (negsuc (top - 2)) ∷ []) ≡ Lot.Over
   -- of that price 92 units fit, and 93 do not
-  pub fitting : lotOf 92 (of 92 (pos (top - 1)) ∷ []) ≡ brings (pos 9199999999999999908) 0
+  pub fitting : lotOf 92 (of 92 (pos (top - 1)) ∷ []) ≡ brings (pos (92 * (top - 1))) 0
   pub passing : lotOf 93 (of 93 (pos (top - 1)) ∷ []) ≡ Lot.Over

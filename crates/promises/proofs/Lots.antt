@@ -248,6 +248,7 @@ module _ (xs room : List ℕ) (e : openAnswer 0 ours xs ≡ 0) (l : lotSize ≤ 
   hut-out = rw (hut-answer, hut-lotted) (ap (λ (m : List ℕ). sets room 0 (3 ∷ m ++ (bitsOf (hut-sum buying) ∷ hut-left buying ∷ []))) heard-words)
 
 pub hut-deals : HutDeals
+unfolding bitsOf
 hut-deals xs room e l = (
   record { answer = hut-answer xs room e l false; out = hut-out xs room e l false },
   record { answer = hut-answer xs room e l true; out = hut-out xs room e l true },

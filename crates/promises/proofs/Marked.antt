@@ -205,6 +205,7 @@ marked-cases =
       m4-many = price.m4-many;
       m4-point-read = read.m4-point;
       m4-many-read = read.m4-many;
+      m4-eight-read = read.says-eight;
       m5-good = moment.m5-2024;
       m5-2025 = moment.m5-2025;
       m5-1900 = moment.m5-1900;

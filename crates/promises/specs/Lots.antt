@@ -3,16 +3,16 @@
 use mathlib.Core.Path.{_≡_}
 use mathlib.Core.Bool.{Bool, true, false}
 use mathlib.Core.List.{List, [], _∷_}
-use Prim.Native.Nat.{ℕ, suc, _≤_}
+use Prim.Native.Nat.{ℕ, suc, _*_, _/_, _≤_}
 use lib.ListN.{length, take}
 use lib.Seq.{sets}
-use Rattle.price.specs.Price.{hundredths}
+use Rattle.price.specs.Price.{unit}
 use Rattle.book.specs.Rules.{Lists}
 use Rattle.sums.specs.Sums.{fits}
 use Rattle.proceeds.specs.Lots.{leftOf, sumOver, sumAfter}
 use Rattle.board.specs.Demand.{NumberedFromOne, NeverBreaks}
 use Rattle.opening.specs.Opening.{openAnswer, openStore}
-use Rattle.ask.specs.Ask.{bitsOf, quoteSize, quoteAnswer, quoteOut}
+use Rattle.ask.specs.Ask.{quoteSize, quoteAnswer, quoteOut}
 use Rattle.backing.specs.Backing.{sideFor}
 use Rattle.lots.specs.Rooms.{lotSize, soldWords, lotAnswer, lotOut}
 use Rattle.promises.specs.Acts.{Act, lefts, Along}
@@ -75,7 +75,8 @@ LotsBesideQuotes =
     → BesideQuotes buying id n now limit room out xs
 
 -- The hut that recovers (Hut.antt) sells and buys 6 units at 20250103-13:00:05, with a limit of 30: its one bid of 5 at 24.02 takes 5 and
--- leaves 1, its one offer of 7 at 24.05 takes all, as of message 3, heard at 13:00:02.000.
+-- leaves 1, its one offer of 7 at 24.05 takes all, as of message 3, heard at 13:00:02.000. Five times 24.02 is 120.10, six times 24.05 is
+-- 144.30.
 abbrev pub atFive : List ℕ
 atFive = 50 ∷ 48 ∷ 50 ∷ 53 ∷ 48 ∷ 49 ∷ 48 ∷ 51 ∷ 45 ∷ 49 ∷ 51 ∷ 58 ∷ 48 ∷ 48 ∷ 58 ∷ 48 ∷ 53 ∷ []
 
@@ -87,5 +88,5 @@ pub record Deals (buying : Bool) (room xs numbers : List ℕ) : Type 0 where
 abbrev pub HutDeals : Type 0
 HutDeals =
     (xs room : List ℕ) → openAnswer 0 ours xs ≡ 0 → lotSize ≤ length room
-    → Deals false room (lefts received (openStore 0 ours xs)) (3 ∷ 20250103 ∷ 130002000 ∷ bitsOf (hundredths 12010) ∷ 1 ∷ [])
-    × Deals true room (lefts received (openStore 0 ours xs)) (3 ∷ 20250103 ∷ 130002000 ∷ bitsOf (hundredths 14430) ∷ 0 ∷ [])
+    → Deals false room (lefts received (openStore 0 ours xs)) (3 ∷ 20250103 ∷ 130002000 ∷ 12010 * (unit / 100) ∷ 1 ∷ [])
+    × Deals true room (lefts received (openStore 0 ours xs)) (3 ∷ 20250103 ∷ 130002000 ∷ 14430 * (unit / 100) ∷ 0 ∷ [])

@@ -1,4 +1,4 @@
--- The marked cases of document 01, M1 to M14, in one statement over the definitions that the contracts cite.
+-- The marked cases of document 01, M1 to M14, with M1, M2 and M4 as document 02, K6 has them, in one statement over the definitions that the contracts cite.
 use mathlib.Core.Path.{_≡_}
 use mathlib.Core.List.{List, [], _∷_}
 use Prim.Native.Nat.{ℕ, _%_, _≤_}
@@ -23,8 +23,8 @@ use Rattle.opening.specs.Opening.{openAnswer, openStore}
 use Rattle.feed.specs.Feeding.{fed, feedStore}
 use Rattle.ask.specs.Ask.{quoteSize, quoteAnswer}
 use Rattle.send.specs.Send.{sendOut}
-use Rattle.samples.specs.Messages.{empty-book, point-alone, too-many-decimals, first, second, third, at-1, at-2, at-4}
-use Rattle.samples.specs.Says.{bid-2, offer-3}
+use Rattle.samples.specs.Messages.{empty-book, point-alone, too-many-decimals, eight-decimals, first, second, third, at-1, at-2, at-4}
+use Rattle.samples.specs.Says.{bid-2, offer-3, eight-says}
 
 -- M11: a fresh channel that follows 7, and what three messages leave of it.
 abbrev pub zero : Channel
@@ -82,6 +82,8 @@ pub record MarkedCases : Type 0 where
   pub m4-many : priceOf (49 ∷ 46 ∷ 49 ∷ 50 ∷ 51 ∷ 52 ∷ 53 ∷ 54 ∷ 55 ∷ 56 ∷ 57 ∷ []) ≡ Priced.No
   pub m4-point-read : messageIn 0 point-alone ≡ refused BadFields
   pub m4-many-read : messageIn 0 too-many-decimals ≡ refused BadFields
+  -- and 8 read
+  pub m4-eight-read : messageIn 0 eight-decimals ≡ eight-says
   -- 20240229 good, 20250229 and 19000229 not
   pub m5-good : dateOf (50 ∷ 48 ∷ 50 ∷ 52 ∷ 48 ∷ 50 ∷ 50 ∷ 57 ∷ []) ≡ Number.Is 739310
   pub m5-2025 : dateOf (50 ∷ 48 ∷ 50 ∷ 53 ∷ 48 ∷ 50 ∷ 50 ∷ 57 ∷ []) ≡ Number.No

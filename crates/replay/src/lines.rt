@@ -115,7 +115,7 @@ fn put_bytes(line: &mut [u8], text: &[u8]) -> usize {
 
 // A space and the bytes as text: up to 4,307 bytes, each of at most four in the line.
 fn bytes(text: &[u8]) {
-    let mut line = [0u8; 17068];
+    let mut line = [0u8; 17228];
     let n = put_bytes(&mut line, text);
     io::write_all(STDOUT_FILENO, b" ");
     io::write_all(STDOUT_FILENO, record::start(&line, n as u64));

@@ -19,8 +19,8 @@ use Rattle.message.specs.declared.Refusal.the-variants.{BadFields}
 use Rattle.group.specs.Groups.{groupOf, each, running}
 use Rattle.lead.specs.Messages.{changesOf, headOf, snapshotOf, orBadFields, typedAs}
 use Rattle.fields.specs.Messages.{messageIn}
-use Rattle.samples.specs.Messages.{empty-book, point-alone, too-many-decimals, first, second, third, at-1, at-2, at-4, one-of-two, two-of-two, fourth}
-use Rattle.samples.specs.Says.{bid-1, bid-2, first-says, second-says, third-says, shows, one-says, two-says, fourth-says}
+use Rattle.samples.specs.Messages.{empty-book, point-alone, too-many-decimals, eight-decimals, first, second, third, at-1, at-2, at-4, one-of-two, two-of-two, fourth}
+use Rattle.samples.specs.Says.{bid-1, bid-2, eight-says, first-says, second-says, third-says, shows, one-says, two-says, fourth-says}
 
 -- the message has 110 bytes and says an empty book
 pub sized : length empty-book ≡ 110
@@ -38,6 +38,10 @@ m4-point = refl
 pub m4-many : messageIn 0 too-many-decimals ≡ refused BadFields
 unfolding messageIn typedAs orBadFields changesOf groupOf each frameOf bodyOf fieldsOf cut fieldOf rangedOf wholeOf digitsOf bytesOf fieldBytes decimal widthOf widthTo fixed tidy upTo past parts allTidy lookup has stands momentOf dateOf timeOf clockOf minutesOf twoOf isDate dayOf leap months daysIn daysTo yearDays daysBefore instrumentOf bvmf entryInX bookEntry valuesOf sortOf priceOf amountOf fractionOf
 m4-many = refl
+
+pub says-eight : messageIn 0 eight-decimals ≡ eight-says
+unfolding messageIn typedAs orBadFields changesOf snapshotOf headOf groupOf each running frameOf bodyOf fieldsOf cut fieldOf rangedOf wholeOf digitsOf bytesOf fieldBytes decimal widthOf widthTo fixed tidy upTo past parts allTidy lookup has stands momentOf dateOf timeOf clockOf minutesOf twoOf isDate dayOf leap months daysIn daysTo yearDays daysBefore instrumentOf bvmf entryInX bookEntry entryInW shownEntry valuesOf sortOf priceOf amountOf fractionOf byOf idOf isId momentIn
+says-eight = refl
 
 -- ---- M11 and M12
 pub says-first : messageIn 0 first ≡ first-says

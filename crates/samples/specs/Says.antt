@@ -1,6 +1,7 @@
 -- What the messages say.
 use mathlib.Core.List.{[], _∷_}
 use Prim.Native.Nat.{ℕ}
+use lib.IntN.{pos}
 use Rattle.price.specs.Price.{hundredths}
 use Rattle.book.specs.declared.Entry.{Entry}
 use Rattle.message.specs.Message.{Message, numbered, snapshot}
@@ -14,6 +15,12 @@ bid-2 = record { price = hundredths 2402; size = 5; by = 3119; more = 0; moment 
 
 abbrev pub offer-3 : Entry
 offer-3 = record { price = hundredths 2405; size = 7; by = 3214; more = 0; moment = 64968180542000 }
+
+-- The same bid at 1.12345678, made by a message 1 of its own.
+abbrev pub eight-says : Message
+eight-says =
+    numbered 1 64968180540000
+    (record { who = 7; what = 0; action = 0; place = 1; entry = record { price = pos 112345678; size = 5; by = 3119; more = 0; moment = 64968180540000 } } ∷ [])
 
 -- Message 1 makes the bid, message 2 changes it, message 3 makes the offer.
 abbrev pub first-says : Message

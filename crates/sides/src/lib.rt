@@ -74,7 +74,7 @@ pub fn entry(store: &[u64], at: usize, most: u64, full: u64) -> bool
     requires { ⌜ at + 5 ≤ length (now store) ⌝ }
     ensures { λ r. ⌜ r ≡ entryScan most full (now (store .entry)) at ⌝ }
 {
-    if holding::MOST_PRICE < store[at] {
+    if holding::MOST_HELD < store[at] {
         return false;
     }
     let size = store[at + 1];

@@ -10,7 +10,8 @@ storeSize = 7168
 abbrev pub layoutNumber : ℕ
 layoutNumber = 4603
 
--- The numbers of earlier layouts, which no store of this one has.
+-- The numbers of earlier layouts, which no store of this one has: before there was a record of loops, and with prices in
+-- ten-millionths.
 abbrev pub earlierLayouts : List ℕ
 earlierLayouts = 4601 ∷ 4602 ∷ []
 

@@ -272,7 +272,7 @@ fn sweep(store: &[u64], marks: u64, from: usize, to: usize, way: Way, most: u64,
 fn fit(c: Columns) -> bool
     ensures { λ r. ⌜ r ≡ fits c ⌝ }
 {
-    (c.price <= holding::MOST_PRICE)
+    (c.price <= holding::MOST_HELD)
         & (c.size < sides::MOST_SIZE)
         & (c.moment < sides::MOMENTS)
         & (c.even == 0)

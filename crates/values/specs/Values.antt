@@ -93,7 +93,7 @@ sortOf (b ∷ c ∷ bs) = Is 3
 abbrev pub sortAt : Values → Option ℕ
 sortAt v = number (sortOf (v 269))
 
--- 270: a signed whole number of ten-millionths.
+-- 270: a signed whole number of hundred-millionths (document 02, K6).
 abbrev pub price : Priced → Option ℤ
 price Priced.No = none
 price (Priced.Is p) = some p

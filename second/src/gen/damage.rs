@@ -393,14 +393,14 @@ fn change_order_id(rng: &mut Rng, store: &[u64]) -> Changes {
 fn some_changes(rng: &mut Rng, store: &[u64]) -> Changes {
     match rng.below(16) {
         0..=4 => some_numbers(rng, store),
-        12 | 13 => change_loop(rng, store),
-        14 => change_price(rng, store),
-        15 => rng.pick(&older_layouts()).clone(),
         5 | 6 => change_heading(rng, store),
         7 => change_instruments(rng, store),
         8 => change_side(rng, store),
         9 | 10 => change_queue(rng, store),
-        _ => change_order_id(rng, store),
+        11 => change_order_id(rng, store),
+        12 | 13 => change_loop(rng, store),
+        14 => change_price(rng, store),
+        _ => rng.pick(&older_layouts()).clone(),
     }
 }
 

@@ -24,8 +24,8 @@ const SUMS: [i128; 14] = [
     1, -1,
 ];
 
-/// A size at least as great as this makes a price out of any step from one of these sums to another;
-/// the least power of two that does.
+/// A size at least as great as this makes a price out of any step from one of these sums to another,
+/// and so does two to this power.
 const LEAST_SIZE: u64 = ((MOST - LEAST) / PRICE_END as i128) as u64 + 1;
 const LEAST_POWER: u64 = LEAST_SIZE.ilog2() as u64 + 1;
 /// How many sums a side is aimed at, at most, and the size that leaves a lot enough for them.
