@@ -37,42 +37,42 @@ bool message_names_instruments(const struct piece *message)
     return message_has_type(message, 'X') || message_has_type(message, 'W');
 }
 
+/* Puts the digits that stand in a value from byte `at` on, at most `most` of them, behind those of
+ * the number; gives how many they are. */
+static size_t add_digits(struct value value, size_t at, size_t most, uint64_t *number)
+{
+    size_t n = 0;
+    for (; n < most && at + n < value.length; n++) {
+        uint8_t byte = value.bytes[at + n];
+        if (byte < '0' || byte > '9')
+            break;
+        *number = *number * 10 + (uint64_t)(byte - '0');
+    }
+    return n;
+}
+
 uint64_t value_number(struct value value)
 {
     uint64_t number = 0;
-    if (value.length > 18)
-        return 0;
-    for (size_t i = 0; i < value.length; i++) {
-        if (value.bytes[i] < '0' || value.bytes[i] > '9')
-            return 0;
-        number = number * 10 + (uint64_t)(value.bytes[i] - '0');
-    }
-    return number;
+    return add_digits(value, 0, 18, &number) == value.length ? number : 0;
 }
 
-/* Each decimal makes the unit of the last digit a tenth, and at last 0, where no more is read: 9
- * digits and 9 decimals fit. */
+/* Tag 270 is a minus or nothing, 1 to 9 digits, then nothing or a point and 1 to 8 digits. Those
+ * behind the point are filled up with zeros to 8. */
 bool value_price(struct value value, uint64_t *price)
 {
     enum { MOST_DIGITS = 9 }; /* before the point */
-    uint64_t size = 0, unit = SELKAVORN_PRICE_UNIT;
-    size_t first = value.length > 0 && value.bytes[0] == '-';
-    bool behind_point = false;
-    if (value.length == first || value.bytes[first] == '.')
+    uint64_t size = 0;
+    size_t minus = value.length > 0 && value.bytes[0] == '-';
+    size_t digits = add_digits(value, minus, MOST_DIGITS, &size), end = minus + digits;
+    size_t point = end < value.length && value.bytes[end] == '.';
+    size_t decimals = point ? add_digits(value, end + 1, SELKAVORN_PRICE_DECIMALS, &size) : 0;
+    if (digits == 0 || (point && decimals == 0) || end + point + decimals != value.length)
         return false;
-    for (size_t i = first; i < value.length; i++) {
-        if (value.bytes[i] == '.' && !behind_point) {
-            behind_point = true;
-            continue;
-        }
-        if (value.bytes[i] < '0' || value.bytes[i] > '9' || unit == 0 ||
-            (!behind_point && i - first == MOST_DIGITS))
-            return false;
-        size = size * 10 + (uint64_t)(value.bytes[i] - '0');
-        unit /= behind_point ? 10 : 1;
-    }
-    *price = first == 1 ? -(size * unit) : size * unit;
-    return unit > 0; /* it has no more decimals than a price */
+    for (; decimals < SELKAVORN_PRICE_DECIMALS; decimals++)
+        size *= 10;
+    *price = minus ? -size : size;
+    return true;
 }
 
 bool value_is_moment(struct value value)

@@ -30,7 +30,7 @@ bool message_names_instruments(const struct piece *message);
 /* The number that a value of up to 18 digits writes; 0 for any other value. */
 uint64_t value_number(struct value value);
 
-/* Sets the price that a value writes as the library does, in the unit of a price, as its 64 bits.
+/* Sets the price that a value writes by the rule of tag 270, in hundred-millionths, as its 64 bits.
  * False where it writes none. */
 bool value_price(struct value value, uint64_t *price);
 

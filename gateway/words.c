@@ -22,19 +22,10 @@ struct amount amount_between(uint64_t from, uint64_t to)
     return (struct amount){.minus = minus, .size = minus ? from - to : to - from};
 }
 
-/* How many decimals a price has: as many as its unit has zeros. */
-static int price_decimals(void)
-{
-    int decimals = 0;
-    for (uint64_t unit = SELKAVORN_PRICE_UNIT; unit > 1; unit /= 10)
-        decimals++;
-    return decimals;
-}
-
 void amount_words(struct amount amount, char text[PRICE_TEXT])
 {
     int width = snprintf(text, PRICE_TEXT, "%s%" PRIu64 ".%0*" PRIu64, amount.minus ? "-" : "",
-                         amount.size / SELKAVORN_PRICE_UNIT, price_decimals(),
+                         amount.size / SELKAVORN_PRICE_UNIT, SELKAVORN_PRICE_DECIMALS,
                          amount.size % SELKAVORN_PRICE_UNIT);
     while (text[width - 1] == '0')
         text[--width] = '\0';

@@ -39,6 +39,7 @@
  *   Entries with 269 = 0 are bids, 1 offers, J (in X) an empty book; other kinds, as trades, and
  *   other tags are passed over. Other types are refused (13) and not counted: if such a message has
  *   a number of the incremental stream, the next one shows a gap.
+ *   A price (270) is a minus or nothing, 1 to 9 digits, then nothing or a point and 1 to 8 digits.
  *
  * Instruments with no snapshot ("A whole loop")
  *   The exchange sends no snapshot of an empty book. So at the end of a whole loop each followed
@@ -152,7 +153,16 @@ extern "C" {
 #endif
 
 /* The version: of this header and of the archive that it came with. The first number changes when a
- * program that was right may have to change, the second when something is added. */
+ * program that was right may have to change, the second when something is added.
+ *
+ * From 2.0 to 3.0
+ *   Compile anew: code built with the 2.0 header takes prices and sums for ten times what they are.
+ *   Prices and sums are hundred-millionths, and were ten-millionths: use SELKAVORN_PRICE_UNIT, and
+ *   multiply by 10 what was saved as a number.
+ *   A price has up to 17 digits, and up to 19 bytes as text.
+ *   A lot is 35 beyond -92,233,720,368.54.. and 92,233,720,368.54.., a tenth of the bounds before.
+ *   A writing may need 4,307 bytes, and is then 25 in 4,267.
+ *   A store of before is 17 until it is opened afresh, and then waits for snapshots. */
 #define SELKAVORN_VERSION_MAJOR 3
 #define SELKAVORN_VERSION_MINOR 0
 #define SELKAVORN_VERSION_PATCH 0
@@ -171,7 +181,9 @@ extern "C" {
 #define SELKAVORN_SHORTEST_WRITING 104   /* bytes of the shortest message that is written */
 #define SELKAVORN_LONGEST_WRITING 4307   /* bytes of the longest message that is written */
 #define SELKAVORN_LONGEST_LIMIT_S 86400  /* seconds of the longest limit of a quote */
-#define SELKAVORN_PRICE_UNIT 100000000   /* hundred-millionths in a price of 1 */
+
+#define SELKAVORN_PRICE_DECIMALS 8              /* digits behind the point of a price at most */
+#define SELKAVORN_PRICE_UNIT INT64_C(100000000) /* hundred-millionths in a price of 1 */
 
 /* The depth kinds of a channel. */
 enum selkavorn_depth {
@@ -285,7 +297,8 @@ enum selkavorn_quote_place {
 };
 enum selkavorn_side_place {
     SELKAVORN_SIDE_HELD = 0,  /* 1, or 0 where the side is empty */
-    SELKAVORN_SIDE_PRICE = 1, /* tag 270 in hundred-millionths: a signed number as its 64 bits */
+    SELKAVORN_SIDE_PRICE = 1, /* tag 270 in hundred-millionths: a signed number as its 64 bits,
+                               * -99,999,999,999,999,999 to 99,999,999,999,999,999 */
     SELKAVORN_SIDE_SIZE = 2,  /* tag 271 */
     SELKAVORN_SIDE_BY = 3,    /* bytes 1 to 8 of tag 37, low byte first, then zeros; or tag 346 */
     SELKAVORN_SIDE_MORE = 4,  /* bytes 9 to 16 of tag 37, likewise; or 0 */

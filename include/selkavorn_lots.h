@@ -11,8 +11,8 @@
  *   selling    takes the bids from place 1 on: of each place its size, or what is left of the lot.
  *   buying     takes the offers likewise.
  *   sum        price times units, added over the places that were taken. It is exact, in the unit
- *              of a price: divide by SELKAVORN_PRICE_UNIT. 64 bits hold what is, so divided,
- *              -92,233,720,368.54775808 to 92,233,720,368.54775807.
+ *              of a price: divide by SELKAVORN_PRICE_UNIT. So divided, a sum is
+ *              -92,233,720,368.54775808 to 92,233,720,368.54775807; beyond that the lot is 35.
  *   left       the units that no place took. It is above 0 only where the whole side was taken.
  *
  * A lot rests on a quote and is dated as that quote is: by H and the heard moment. Where

@@ -195,14 +195,15 @@ static void open_fresh(struct board *board, uint64_t depth)
     check_equal(open_board(board, depth, ids, 2), SELKAVORN_DONE, "opening");
 }
 
-/* Whether a message has this field, which is written with the SOH before it and its own. */
-static bool has_field(const uint8_t *message, size_t n, const char *field)
+/* How many fields of a message are this one, which is written with the SOH before it and its own;
+ * or begin so, where it is cut. */
+static unsigned count_fields(const uint8_t *message, size_t n, const char *field)
 {
     const size_t length = strlen(field);
+    unsigned count = 0;
     for (size_t i = 0; i + length <= n; i++)
-        if (memcmp(message + i, field, length) == 0)
-            return true;
-    return false;
+        count += memcmp(message + i, field, length) == 0;
+    return count;
 }
 
 /* Whether the W that was fed may have ended a whole loop: none runs after it, and before it one ran
@@ -211,7 +212,7 @@ static bool may_end_loop(const struct board *board, const uint8_t *message, size
 {
     const uint64_t *now = board->area + GUARD + RECORD_AT, *old = board->before + GUARD + RECORD_AT;
     return now[RECORD_OF] == 0 && (old[RECORD_CAME] + 1 == old[RECORD_OF] ||
-                                   has_field(message, n, "\001911=1\001"));
+                                   count_fields(message, n, "\001911=1\001") > 0);
 }
 
 static uint64_t feed_bytes(struct board *board, const uint8_t *message, size_t n)
@@ -392,8 +393,8 @@ static void feed(struct board *board, uint64_t answer, uint64_t waiting, const c
 #define NEW_BID "279=0|269=0|" ENTRY("7", "24.01") "290=1|"
 #define NEW_OFFER "279=0|269=1|" ENTRY("7", "-0.5") "290=1|"
 #define DELETE_BID "279=2|269=0|48=7|22=8|290=1|"
-#define HUNDREDTHS(n) (INT64_C(n) * SELKAVORN_PRICE_UNIT / 100)
-#define HIGHEST_PRICE (INT64_C(1000000000) * SELKAVORN_PRICE_UNIT - 1)
+#define HUNDREDTHS(n) ((n) * SELKAVORN_PRICE_UNIT / 100)
+#define HIGHEST_PRICE (1000000000 * SELKAVORN_PRICE_UNIT - 1)
 #define HEARTBEAT "35=0|34=%d|" AT
 #define TEXT HEARTBEAT "58=%0*d|" /* with a value of the given width, of more than 999 bytes */
 #define AROUND_TEXT 63            /* bytes of such a message around that value */
@@ -1477,11 +1478,18 @@ static void check_rooms(struct writing w, uint64_t length)
     check_equal(write_book(&first, w), 256 * length, "exactly enough room");
 }
 
-/* Opens one instrument of 18 digits at the highest number, with 20 bids and offers of the longest
- * kind. */
-static void open_longest(void)
+/* Opens a board with one instrument of 18 digits, which waits, at the highest number. */
+static void open_highest(struct board *board)
 {
     static const uint64_t id[] = {999999999999999999};
+    fresh(board);
+    check_equal(open_board(board, 0, id, 1), SELKAVORN_DONE, "opening");
+    feed(board, SELKAVORN_GAP, 1, "the highest number", "35=0|34=4294967295|" AT);
+}
+
+/* Opens the first board so, with 20 bids and offers of the longest kind. */
+static void open_longest(void)
+{
     char entries[MESSAGE_ROOM / 2] = "";
     size_t n = 0;
     for (int i = 0; i < 40; i++)
@@ -1489,15 +1497,32 @@ static void open_longest(void)
                               "269=%d|270=-999999999.99999999|271=999999999999|37=ABCDEFGHIJKLMNOP|"
                               "272=20250103|273=12:59:58.250|290=%d|",
                               i / 20, i % 20 + 1);
-    fresh(&first);
-    check_equal(open_board(&first, 0, id, 1), SELKAVORN_DONE, "opening");
-    feed(&first, SELKAVORN_GAP, 1, "the highest number", "35=0|34=4294967295|" AT);
+    open_highest(&first);
     make("35=W|34=1|" AT "48=999999999999999999|22=8|369=4294967295|911=1|268=40|%s", entries);
     feed_made(&first, SELKAVORN_TAKEN, 0, "40 places");
 }
 
 _Static_assert(SELKAVORN_SHORTEST_WRITING == 104 && SELKAVORN_LONGEST_WRITING == 4307,
                "the bounds of a writing");
+
+/* Gives the second board, on which the instrument waits, what the first writes: it must then quote
+ * and write the same, with so many Waiting. */
+static void check_same_book(struct writing w, uint64_t waiting)
+{
+    static const char now[] = "20250103-13:00:00";
+    uint64_t quoted[SELKAVORN_QUOTE_NUMBERS];
+    uint8_t written[BYTES_ROOM];
+    size_t n = (size_t)SELKAVORN_LENGTH(write_book(&first, w));
+    memcpy(written, bytes, n);
+    check_equal(quote(&first, w.id, now, 0, 17), SELKAVORN_DONE, "first quote");
+    memcpy(quoted, numbers, sizeof quoted);
+    check_equal(feed_bytes(&second, written, n), SELKAVORN_TAKEN + 256 * waiting,
+                "the writing is taken");
+    check_equal(quote(&second, w.id, now, 0, 17), SELKAVORN_DONE, "second quote");
+    check(memcmp(quoted, numbers, sizeof quoted) == 0, "the quotes are the same");
+    check_equal(write_book(&second, w), 256 * n, "written again");
+    check(memcmp(written, bytes, n) == 0, "the messages are the same");
+}
 
 static void test_writing(void)
 {
@@ -1519,6 +1544,8 @@ static void test_writing(void)
     w = (struct writing){999999999999999999, "ABCDEFGHIJKLMNOP", "abcdefghijklmnop", 16, 16,
                          "20250103-13:00:00.000", BYTES_ROOM};
     check_rooms(w, SELKAVORN_LONGEST_WRITING);
+    open_highest(&second);
+    check_same_book(w, 0);
     end();
 }
 
@@ -1526,19 +1553,9 @@ static void test_writing(void)
 static void check_round_trip(uint64_t depth, int number)
 {
     struct writing w = {7, "SHED", "YARD", 1, 2, "20250103-13:00:09.000", BYTES_ROOM};
-    uint64_t quoted[SELKAVORN_QUOTE_NUMBERS];
-    uint8_t written[BYTES_ROOM];
-    size_t n = (size_t)SELKAVORN_LENGTH(write_book(&first, w));
-    memcpy(written, bytes, n);
-    check_equal(quote(&first, 7, "20250103-13:00:00", 0, 17), SELKAVORN_DONE, "first quote");
-    memcpy(quoted, numbers, sizeof quoted);
     open_fresh(&second, depth);
     feed(&second, number == 1 ? SELKAVORN_DONE : SELKAVORN_GAP, 2, "heard", HEARTBEAT, number);
-    check_equal(feed_bytes(&second, written, n), SELKAVORN_TAKEN + 256, "the writing is taken");
-    check_equal(quote(&second, 7, "20250103-13:00:00", 0, 17), SELKAVORN_DONE, "second quote");
-    check(memcmp(quoted, numbers, sizeof quoted) == 0, "the quotes are the same");
-    check_equal(write_book(&second, w), 256 * n, "written again");
-    check(memcmp(written, bytes, n) == 0, "the messages are the same");
+    check_same_book(w, 1);
 }
 
 static void test_round_trip(void)
@@ -1592,48 +1609,64 @@ static const char *const no_prices[] = {
     "1000000000", "0000000001", "-1000000000", "1000000000.1", ".5", "-.5", "-", ".", "+1", "--1",
     "1.5.", "1,5", "1e3", "1.2345678A", "1.-5", " 1", "1 "};
 
+_Static_assert(SELKAVORN_PRICE_UNIT == 100000000 && SELKAVORN_PRICE_DECIMALS == 8,
+               "the unit has as many zeros as a price has decimals");
+
 /* A bid of 7 at place 1, of either depth kind. */
 #define PRICED "269=0|270=%s|271=12|37=A|346=1|" STAMP "290=1|"
 
-/* Asks the first board for the quote of 7, whose bid must have this price, and for a unit of it. */
-static void check_price(int64_t price, const char *what)
+/* The first board's quote of 7 must have this price, with 12 units, at the side that is sold to or
+ * bought from; a lot of one unit and one of 12 must come to it. */
+static void check_price(enum way way, int64_t price, const char *what)
 {
+    const int side = way == SELL ? SELKAVORN_QUOTE_BID : SELKAVORN_QUOTE_OFFER;
     check_equal(quote(&first, 7, "20250103-13:00:00", 0, 17), SELKAVORN_DONE, what);
-    check_equal(numbers[SELKAVORN_QUOTE_BID + SELKAVORN_SIDE_PRICE], (uint64_t)price, what);
-    check_lot(good_lot(SELL, 1), SELKAVORN_DONE, what);
+    check_equal(numbers[side + SELKAVORN_SIDE_PRICE], (uint64_t)price, what);
+    check_equal(numbers[side + SELKAVORN_SIDE_SIZE], 12, what);
+    check_lot(good_lot(way, 1), SELKAVORN_DONE, what);
     check_equal(numbers[SELKAVORN_LOT_SUM], (uint64_t)price, what);
+    check_lot(good_lot(way, 12), SELKAVORN_DONE, what);
+    check_equal(numbers[SELKAVORN_LOT_SUM], (uint64_t)(12 * price), what);
 }
 
-/* The book of 7 must be written with this price, and nothing else in its place. */
-static void check_written(const char *price)
+/* The book of 7 must be written with this price at each of so many places, and no other. */
+static void check_written(const char *price, unsigned places)
 {
     char field[40];
     struct writing w = {7, "SHED", "YARD", 1, 2, "20250103-13:00:00", BYTES_ROOM};
     uint64_t answered = write_book(&first, w);
+    const size_t n = (size_t)SELKAVORN_LENGTH(answered);
     snprintf(field, sizeof field, "\001270=%s\001", price);
     check_equal(SELKAVORN_ANSWER(answered), SELKAVORN_DONE, price);
-    check(has_field(bytes, (size_t)SELKAVORN_LENGTH(answered), field), price);
+    check_equal(count_fields(bytes, n, field), places, price);
+    check_equal(count_fields(bytes, n, "\001270="), places, price);
+}
+
+/* A price as a bid of a snapshot, as an offer of one, and as a bid that is new beside it. */
+static void check_each(uint64_t depth, const char *read, int64_t price, const char *written)
+{
+    static const rows none = {{NULL, 0}};
+    const rows side = {{read, 12}};
+    open_with_rows(depth, side, none);
+    check_price(SELL, price, read);
+    check_written(written, 1);
+    check_round_trip(depth, 1);
+    open_with_rows(depth, none, side);
+    check_price(BUY, price, read);
+    check_written(written, 1);
+    feed(&first, SELKAVORN_DONE, 1, read, "35=X|34=2|" AT "268=1|279=0|48=7|22=8|" PRICED, read);
+    check_price(SELL, price, read);
+    check_price(BUY, price, read);
+    check_written(written, 2);
+    check_round_trip(depth, 2);
 }
 
 static void test_prices(void)
 {
-    static const rows none = {{NULL, 0}};
     begin("prices");
-    for (size_t i = 0; i < sizeof prices / sizeof *prices; i++) {
-        const rows bid = {{prices[i].read, 12}};
-        open_with_rows(i % 2, bid, none);
-        check_price(prices[i].price, prices[i].read);
-        check_given(good_lot(SELL, 12), 12 * prices[i].price, 0, prices[i].read);
-        check_written(prices[i].written);
-        check_round_trip(i % 2, 1);
-        open_with_rows(i % 2, none, bid);
-        check_given(good_lot(BUY, 12), 12 * prices[i].price, 0, prices[i].read);
-        feed(&first, SELKAVORN_DONE, 1, prices[i].read,
-             "35=X|34=2|" AT "268=1|279=0|48=7|22=8|" PRICED, prices[i].read);
-        check_price(prices[i].price, prices[i].read);
-        check_written(prices[i].written);
-        check_round_trip(i % 2, 2);
-    }
+    for (uint64_t depth = 0; depth < 2; depth++)
+        for (size_t i = 0; i < sizeof prices / sizeof *prices; i++)
+            check_each(depth, prices[i].read, prices[i].price, prices[i].written);
     open_with_book(&first);
     for (size_t i = 0; i < sizeof no_prices / sizeof *no_prices; i++) {
         feed(&first, SELKAVORN_FIELDS, 1, no_prices[i],
@@ -1641,7 +1674,12 @@ static void test_prices(void)
         feed(&first, SELKAVORN_FIELDS, 1, no_prices[i],
              "35=W|34=1|" AT "48=9|22=8|369=1|911=2|268=1|" PRICED, no_prices[i]);
     }
-    check_price(HUNDREDTHS(2401), "the book is as it was");
+    check_price(SELL, HUNDREDTHS(2401), "the book is as it was");
+    feed(&first, SELKAVORN_DONE, 1, "a delete, whose 270 is not read",
+         "35=X|34=2|" AT "268=1|279=2|48=7|22=8|" PRICED, "1.234567891");
+    check_equal(state(&first, 7, SELKAVORN_STATE_NUMBERS), SELKAVORN_DONE, "the state of 7");
+    check_equal(numbers[SELKAVORN_STATE_BIDS], 0, "the bid is deleted");
+    check_equal(numbers[SELKAVORN_STATE_OFFERS], 1, "the offer stays");
     end();
 }
 

@@ -51,7 +51,7 @@ is_reckoned() {
 import fractions, json, re, subprocess, sys
 recording, depth, instrument = sys.argv[1:]
 exact = fractions.Fraction
-unit = int(re.search(r"SELKAVORN_PRICE_UNIT (\d+)", open("include/selkavorn.h").read())[1])
+unit = int(re.search(r"SELKAVORN_PRICE_UNIT INT64_C\((\d+)\)", open("include/selkavorn.h").read())[1])
 
 def run(command, *words):
     words = ["scripts/run-program", "target/c/selkavorn", command, "--depth", depth, "--instrument", instrument, *words, recording]
@@ -302,5 +302,6 @@ else
     check "sell and buy: the samples add up" adds_up
     check "sell and buy: a reader of CSV takes them" reads_columns
     check "sell and buy: lots reckoned anew, morning" is_reckoned "$morning" order "$coffee"
+    check "sell and buy: lots reckoned anew, a currency contract" is_reckoned target/c/wide.fix order "$currency"
     for id in "$coffee" "$spread" "$bounds" "$widest"; do check "sell and buy: lots reckoned anew, $id" is_reckoned "$lots" price "$id"; done
 fi
