@@ -391,17 +391,19 @@ void measure_prices(Depth depth, const Measure &measure) {
     check_same(c, *stores, "the plain board", seen(*plains));
 }
 
-// The scan by the order ids that a store holds, and the bare loops, each round at one place in memory.
+// The scan by the order ids and the prices that a store holds, and the bare loops, each round at one place in memory.
 void measure_scans(const Measure &measure) {
     const Case c = {ORDER_DEPTH, 0, 0};
     const Store uniform = filled_store(ORDER_DEPTH, make_stream(ORDER_DEPTH, 0, 1, LONG_IDS)),
-                mixed = filled_store(ORDER_DEPTH, make_stream(ORDER_DEPTH, 0, 1, MIXED_IDS));
+                mixed = filled_store(ORDER_DEPTH, make_stream(ORDER_DEPTH, 0, 1, MIXED_IDS)),
+                far = filled_store(ORDER_DEPTH, make_stream(ORDER_DEPTH, 0, 1, LONG_IDS, FAR_PRICES));
     Copies<Store> stores(uniform);
     auto nothing = [] {};
     auto scans = again([&] { return scan((*stores).data()); });
     std::vector<Measured> all = {
         {columns(c, 0, "scan"), CALLS_A_ROUND, [&] { stores.next(uniform); }, scans, {}},
         {columns(c, 0, "mixed scan"), CALLS_A_ROUND, [&] { *stores = mixed; }, scans, {}},
+        {columns(c, 0, "far scan"), CALLS_A_ROUND, [&] { *stores = far; }, scans, {}},
         {columns(c, 0, "loop"), CALLS_A_ROUND, nothing, again([&] { return loop<loop_wide>((*stores).data()); }), {}},
         {columns(c, 0, "plain loop"), CALLS_A_ROUND, nothing, again([&] { return loop<loop_plain>((*stores).data()); }), {}},
         {columns(c, 0, "scalar loop"), CALLS_A_ROUND, nothing, again([&] { return loop<loop_scalar>((*stores).data()); }), {}},

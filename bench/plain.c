@@ -13,8 +13,8 @@
 #define LARGEST_ID UINT64_C(999999999999999999)
 #define LARGEST_SIZE UINT64_C(999999999999)
 
-enum { SHORTEST = 26, SHORTEST_BODY = 5, TRAILER = 7, MOST_ENTRIES = 64, MOST_DIGITS = 18, DECIMALS = 8 };
-_Static_assert(SELKAVORN_PRICE_UNIT == 100000000, "a price has as many decimals as its unit has zeros");
+enum { SHORTEST = 26, SHORTEST_BODY = 5, TRAILER = 7, MOST_ENTRIES = 64, MOST_DIGITS = 18 };
+enum { PRICE_DIGITS = 9 }; /* before the point of a price, at most */
 enum action { NEW, CHANGE, DELETE, DELETE_THRU, DELETE_FROM };
 
 /* ---- fields ---- */
@@ -124,7 +124,7 @@ static bool read_price(struct text text, int64_t *price)
     const uint8_t *from = p;
     int64_t value = 0;
     for (; p < end && is_digit(*p); p++) {
-        if (p - from == 9) return false;
+        if (p - from == PRICE_DIGITS) return false;
         value = 10 * value + (*p - '0');
     }
     if (p == from) return false;
@@ -132,11 +132,11 @@ static bool read_price(struct text text, int64_t *price)
     if (p < end) {
         if (*p++ != '.' || p == end) return false;
         for (; p < end; p++, decimals++) {
-            if (decimals == DECIMALS || !is_digit(*p)) return false;
+            if (decimals == SELKAVORN_PRICE_DECIMALS || !is_digit(*p)) return false;
             value = 10 * value + (*p - '0');
         }
     }
-    for (; decimals < DECIMALS; decimals++) value *= 10;
+    for (; decimals < SELKAVORN_PRICE_DECIMALS; decimals++) value *= 10;
     *price = minus ? -value : value;
     return true;
 }

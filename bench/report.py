@@ -40,6 +40,7 @@ OTHER_ROWS = (("open", "open, 16 instruments"), ("snapshot", "feed, a snapshot o
               ("quote", "quote"), ("sell", "sell, 1 unit"), ("sell, 20 places", "sell, 20 places"), ("write", "write, 40 places"),
               ("state", "state"), ("board", "board"))
 SCAN_ROWS = (("scan", "scan, order ids of 10 bytes"), ("mixed scan", "scan, order ids of 5 and of 10 bytes"),
+             ("far scan", "scan, prices of 900,000,000 and more"),
              ("loop", "bare loop, sixteen numbers at a time: the floor"), ("plain loop", "bare loop, one number after the other"),
              ("scalar loop", "bare loop, one number to an instruction"))
 WALK_ROWS = (("salvage", "walk"), ("salvage, 1 byte in 1000 damaged", "walk, 1 byte in 1,000 damaged"),
@@ -80,10 +81,10 @@ NOTES = """\
   Where the loop goes on, the same snapshot is the second of three, and the 15 still wait: the difference is what the end takes.
   QuickFIX's board has neither loops nor a queue, so it has no row; with the plain board all books are compared.
 - Prices have 3 digits and 2 decimals. Where they have 9 digits and 8 decimals, half are below 0, and all else of the stream is drawn
-  alike: beside the feed of 10 entries it shows what longer prices take. They are below 700,000,000: where a
-  store holds prices that are farther from 0 than 720,575,940, the scan may have to test place by place, which is not measured here.
-  QuickFIX's board holds a price as a double, which has too few digits for these, so it has no row; with the plain board all books are
-  compared.
+  alike: beside the feed of 10 entries it shows what longer prices take. They are less than 700,000,000 from 0. Where a store holds
+  prices that are farther from 0 than 720,575,940, the scan may have to test place by place. The scan of prices of 900,000,000 and more
+  shows what that takes, and has no aim; half of them are below 0, and order ids have 10 bytes. QuickFIX's board holds a price as a
+  double, which has too few digits for long ones, so it has no row; with the plain board all books are compared.
 - `sell` is `selkavorn_sell` of the store and the instrument that are quoted, which has 20 bids: a lot of 1 unit, which takes place 1
   alone, and one of as many units as all bids have, which takes the 20 places whole. It scans the store and makes the quote first, as
   `quote` does. Before it is timed, the books are compared, and all numbers of both lots with what the plain reader's places bring;

@@ -76,8 +76,7 @@ std::vector<uint64_t> expected_lot(const SeenBoard &board, const SeenBook &book,
 
 // A price without needless zero, point or minus.
 std::string price_text(int64_t price) {
-    static const size_t decimals = std::to_string(SELKAVORN_PRICE_UNIT).size() - 1;
-    std::string rest = padded(std::llabs(price) % SELKAVORN_PRICE_UNIT, decimals);
+    std::string rest = padded(std::llabs(price) % SELKAVORN_PRICE_UNIT, SELKAVORN_PRICE_DECIMALS);
     rest.erase(rest.find_last_not_of('0') + 1);
     return (price < 0 ? "-" : "") + std::to_string(std::llabs(price) / SELKAVORN_PRICE_UNIT) + (rest.empty() ? "" : "." + rest);
 }

@@ -26,8 +26,9 @@ std::string order_id(Ids ids, Draw &draw) {
 
 std::string drawn_price(Prices prices, Draw &draw) {
     if (prices == SHORT_PRICES) return std::to_string(300 + draw.below(50)) + "." + padded(draw.below(100), 2);
-    const std::string minus = draw.below(2) == 0 ? "-" : "", digits = std::to_string(100000000 + draw.below(600000000));
-    return minus + digits + "." + padded(draw.below(100000000), 8);
+    const std::string minus = draw.below(2) == 0 ? "-" : "";
+    const unsigned whole = prices == LONG_PRICES ? 100000000 + draw.below(600000000) : 900000000 + draw.below(100000000);
+    return minus + std::to_string(whole) + "." + padded(draw.below(100000000), 8);
 }
 
 // Price, size, order id or number of orders, date and time.

@@ -12,8 +12,9 @@ enum Depth { ORDER_DEPTH = 0, PRICE_DEPTH = 1 };
 // Order ids: all of 10 bytes, or some of 10 and some of 5, drawn evenly.
 enum Ids { LONG_IDS, MIXED_IDS };
 
-// Prices: of 3 digits and 2 decimals, or of 9 digits and 8 decimals, below 700,000,000 and half of them below 0.
-enum Prices { SHORT_PRICES, LONG_PRICES };
+// Prices: of 3 digits and 2 decimals; or of 9 digits and 8 decimals, half of them below 0: less than 700,000,000 from 0, or 900,000,000
+// and more.
+enum Prices { SHORT_PRICES, LONG_PRICES, FAR_PRICES };
 
 constexpr char SOH = '\1';
 

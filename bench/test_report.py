@@ -11,7 +11,7 @@ from results import EVEN, MIXED, SCANS, STARTS, STATES, Case, Recording, Run, ca
 WHATS = ("feed", "scan", "loop", "plain", "parse", "validate", "book")
 OTHERS = ("open", "snapshot", "plain snapshot", "QuickFIX snapshot", "long prices", "plain long prices", "loop end", "plain loop end",
           "loop goes on", "quote", "sell", "sell, 20 places", "write", "state")
-SCAN_WHATS = ("scan", "mixed scan", "loop", "plain loop", "scalar loop")
+SCAN_WHATS = ("scan", "mixed scan", "far scan", "loop", "plain loop", "scalar loop")
 BYTES = {"loop end": 172, "long prices": 173}  # of a message; all others have 171
 HEADERS = pathlib.Path(__file__).resolve().parent.parent / "include"
 
@@ -104,6 +104,11 @@ class Report(unittest.TestCase):
         self.assertEqual(rows[at + 1:at + 3],
                          [["price depth: feed, 10 entries with prices of 9 digits and 8 decimals, 173 bytes", "130"],
                           ["price depth: the same, plain C reader", "120"]])
+
+    def test_the_scan_of_far_prices_has_a_row_and_no_aim(self):
+        slow = made(changed={(SCANS, "far scan"): [900.0] * 3})
+        self.assertRegex("\n".join(page("v1", [slow])), r"\| order depth: scan, prices of 900,000,000 and more +\| +900 \|")
+        self.assertEqual([met for *_, met in judged(slow)], [met for *_, met in judged(made())])
 
     def test_lots_have_rows_behind_the_quote(self):
         lots = {(Case("price", 0, 0), "sell"): [110.0] * 3, (Case("price", 0, 0), "sell, 20 places"): [120.0] * 3}
