@@ -181,9 +181,8 @@ extern "C" {
 #define SELKAVORN_SHORTEST_WRITING 104   /* bytes of the shortest message that is written */
 #define SELKAVORN_LONGEST_WRITING 4307   /* bytes of the longest message that is written */
 #define SELKAVORN_LONGEST_LIMIT_S 86400  /* seconds of the longest limit of a quote */
-
-#define SELKAVORN_PRICE_DECIMALS 8              /* digits behind the point of a price at most */
-#define SELKAVORN_PRICE_UNIT INT64_C(100000000) /* hundred-millionths in a price of 1 */
+#define SELKAVORN_PRICE_DECIMALS 8       /* digits behind the point of a price at most */
+#define SELKAVORN_PRICE_UNIT 100000000L  /* hundred-millionths in a price of 1, as 64 bits */
 
 /* The depth kinds of a channel. */
 enum selkavorn_depth {

@@ -51,7 +51,7 @@ is_reckoned() {
 import fractions, json, re, subprocess, sys
 recording, depth, instrument = sys.argv[1:]
 exact = fractions.Fraction
-unit = int(re.search(r"SELKAVORN_PRICE_UNIT INT64_C\((\d+)\)", open("include/selkavorn.h").read())[1])
+unit = int(re.search(r"SELKAVORN_PRICE_UNIT (\d+)", open("include/selkavorn.h").read())[1])
 
 def run(command, *words):
     words = ["scripts/run-program", "target/c/selkavorn", command, "--depth", depth, "--instrument", instrument, *words, recording]
