@@ -44,8 +44,8 @@ pub const BAD_PLACE: u64 = 1;
 // or else no room.
 pub const NO_ROOM: u64 = 2;
 
-// One place of a side. price is a whole number of the unit that prices are held in. by and more are the two numbers of the order id, or the number of
-// orders and 0. moment is a date and time as one number. An unused place is all zero.
+// One place of a side. price is a whole number; its unit is nothing to a book. by and more are the two numbers of the order id,
+// or the number of orders and 0. moment is a date and time as one number. An unused place is all zero.
 pub struct Entry {
     pub price: i64,
     pub size: u64,

@@ -9,7 +9,7 @@ pub const WHOLES: usize = 9;
 
 pub const DECIMALS: usize = 8;
 
-// Ten to the number of zeros.
+// Powers of ten, by the number of their zeros.
 const TENS: [u64; 10] = [
     1,
     10,

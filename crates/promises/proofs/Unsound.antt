@@ -1,11 +1,16 @@
 -- An unsound store, and so an older one, is 17 to every call that reads it. Assumes nothing.
-use mathlib.Core.Path.{_≡_, refl, sym, ap, _∙_}
+use mathlib.Core.Path.{_≡_, refl, ap, _∙_}
 use mathlib.Core.Bool.{Bool, true, false}
 use mathlib.Core.List.{List}
-use Prim.Native.Nat.{ℕ, _%_}
+use Prim.Native.Nat.{ℕ, _%_, _≤_}
+use lib.ListN.{length}
+use borrow.Author.Tests.{le-leb}
+use Rattle.board.specs.Sound.{opens}
+use Rattle.store.specs.Layout.{storeSize}
 use Rattle.sound.specs.Sound.{sound}
 use Rattle.sound.specs.Settled.{Allowed}
 use Rattle.sound.proofs.Laws.{earlier-is-unsound}
+use Rattle.opening.specs.Opening.{openAnswer}
 use Rattle.opening.proofs.Laws.{opened-is-sound}
 use Rattle.loops.specs.Laws.{touches}
 use Rattle.feed.specs.Feeding.{feedAnswer}
@@ -49,6 +54,10 @@ module _ (xs : List ℕ) (h : sound xs ≡ false) where
   unfolding lotAnswer lottedOf quotedOf behind
   lot-17 buying id n now limit room = rw h
 
+  open-0 : storeSize ≤ length xs → (depth : ℕ) (ids : List ℕ) → opens depth ids ≡ true → openAnswer depth ids xs ≡ 0
+  unfolding openAnswer
+  open-0 l depth ids e = rw (le-leb storeSize (length xs) l, e)
+
   refused : Refused xs
   refused =
       record {
@@ -58,7 +67,7 @@ module _ (xs : List ℕ) (h : sound xs ≡ false) where
         stating = λ id room. stays isDone _ _ refl (refusals-stay .stating id room xs) (λ r ys o. o .answer ∙ state-17 id room);
         summing = λ room. stays isDone _ _ refl (refusals-stay .summing room xs) (λ r ys o. o .answer ∙ summary-17 room);
         dealing = λ buying id n now limit room. stays isDone _ _ refl (refusals-stay .dealing buying id n now limit room xs) (λ r ys o. o .answer ∙ lot-17 buying id n now limit room);
-        opening = λ depth ids r ys o e. rw (o .store) (opened-is-sound depth ids xs (sym (o .answer) ∙ e));
+        opening = λ l depth ids e r ys o. (o .answer ∙ open-0 l depth ids e, rw (o .store) (opened-is-sound depth ids xs (open-0 l depth ids e)));
       }
 
 pub unsound-is-refused : UnsoundIsRefused

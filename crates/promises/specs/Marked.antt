@@ -1,4 +1,5 @@
--- The marked cases of document 01, M1 to M14, with M1, M2 and M4 as document 02, K6 has them, in one statement over the definitions that the contracts cite.
+-- The marked cases of document 01, M1 to M14, with M1, M2 and M4 as document 02, K6 has them, in one statement over the definitions
+-- that the contracts cite.
 use mathlib.Core.Path.{_≡_}
 use mathlib.Core.List.{List, [], _∷_}
 use Prim.Native.Nat.{ℕ, _%_, _≤_}

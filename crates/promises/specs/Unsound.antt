@@ -3,10 +3,10 @@
 use mathlib.Core.Path.{_≡_}
 use mathlib.Core.Bool.{Bool, true, false}
 use mathlib.Core.List.{List}
-use Prim.Native.Nat.{ℕ}
-use lib.ListN.{getD}
-use Rattle.board.specs.Sound.{among}
-use Rattle.store.specs.Layout.{atLayout, earlierLayouts}
+use Prim.Native.Nat.{ℕ, _≤_}
+use lib.ListN.{length, getD}
+use Rattle.board.specs.Sound.{among, opens}
+use Rattle.store.specs.Layout.{storeSize, atLayout, earlierLayouts}
 use Rattle.sound.specs.Sound.{sound}
 use Rattle.sound.specs.Settled.{Allowed}
 use Rattle.opening.specs.Opening.{Opened}
@@ -27,8 +27,10 @@ pub record Refused (xs : List ℕ) : Type 0 where
   pub stating : (id : ℕ) (room : List ℕ) → Refuses (Stated id room xs) room
   pub summing : (room : List ℕ) → Refuses (Summed room xs) room
   pub dealing : (buying : Bool) (id n : ℕ) (now : List ℕ) (limit : ℕ) (room : List ℕ) → Refuses (Dealt buying id n now limit room xs) room
-  -- until it is opened afresh
-  pub opening : (depth : ℕ) (ids : List ℕ) (r : ℕ) (ys : List ℕ) → Opened depth ids xs r ys → r ≡ 0 → sound ys ≡ true
+  -- until it is opened afresh, which takes it as it takes any store that is long enough
+  pub opening :
+      storeSize ≤ length xs → (depth : ℕ) (ids : List ℕ) → opens depth ids ≡ true
+      → (r : ℕ) (ys : List ℕ) → Opened depth ids xs r ys → (r ≡ 0) × (sound ys ≡ true)
 
 abbrev pub UnsoundIsRefused : Type 0
 UnsoundIsRefused = (xs : List ℕ) → sound xs ≡ false → Refused xs
