@@ -1,6 +1,6 @@
 -- An instrument is found by its SecurityID at one index, which calls never move.
-use mathlib.Core.Path.{_≡_, refl, _∙_, ap, sym}
-use mathlib.Core.Bool.{Bool, true, false, cond}
+use mathlib.Core.Path.{_≡_, refl, _∙_, ap, ap₂, sym}
+use mathlib.Core.Bool.{Bool, true, false, cond, _||_}
 use mathlib.Core.List.{List, [], _∷_, map}
 use Prim.Native.Nat.{ℕ, _+_, _<_}
 use native.Mathlib.Numerals.{add-one}
@@ -8,6 +8,7 @@ use native.Mathlib.Omega.{arith}
 use lib.Dec.{eqb}
 use lib.ListN.{length, getD, length-map}
 use borrow.Author.Tests.{eqb-true, eqb-false, eq-eqb, ne-eqb}
+use Rattle.book.specs.Rules.{forAll}
 use Rattle.book.specs.declared.Update.{Update}
 use Rattle.board.specs.Board.{Inst, idsOf, noInst, look}
 use Rattle.board.specs.Count.{to, aimed}
@@ -50,15 +51,22 @@ look-same d e xs h = go (eqb e d) refl
         (λ l. eqb-false e d q
         (sym (look-found e xs (omega arith)) ∙ ap (λ (k : ℕ). getD xs k noInst .id) l ∙ look-found d xs h))
 
+-- an entry for all has the same who wherever it is aimed
+to-all : (i j : ℕ) (u : Update) → forAll u ≡ true → to i u ≡ to j u
+to-all i j u e = rw e
+
 -- a message's entries for d, aimed, are those for its index
 pub mine-aimed : (d : ℕ) (xs : List Inst) → look d xs < length xs → (us : List Update)
     → mine (look d xs) (map (aimed xs) us) ≡ map (to (look d xs)) (mine d us)
 unfolding mine
 mine-aimed d xs h [] = refl
-mine-aimed d xs h (u ∷ us) = rw (look-same d (u .who) xs h) (go (eqb (u .who) d) refl (mine-aimed d xs h us))
+mine-aimed d xs h (u ∷ us) = go (forAll u) (eqb (u .who) d) refl refl (mine (look d xs) (map (aimed xs) us)) (mine-aimed d xs h us)
   where
-    go : (t : Bool) → eqb (u .who) d ≡ t → mine (look d xs) (map (aimed xs) us) ≡ map (to (look d xs)) (mine d us)
-        → cond t (aimed xs u ∷ mine (look d xs) (map (aimed xs) us)) (mine (look d xs) (map (aimed xs) us))
-        ≡ map (to (look d xs)) (cond t (u ∷ mine d us) (mine d us))
-    go true e ih = let q : u .who ≡ d = eqb-true (u .who) d e in rw (q, ih)
-    go false e ih = ih
+    go : (a t : Bool) → forAll u ≡ a → eqb (u .who) d ≡ t → (rest : List Update) → rest ≡ map (to (look d xs)) (mine d us)
+        → cond (a || eqb (cond a 0 (look (u .who) xs)) (look d xs)) (aimed xs u ∷ rest) rest
+        ≡ map (to (look d xs)) (cond (a || t) (u ∷ mine d us) (mine d us))
+    go true t e f rest ih = ap₂ _∷_ (to-all (look (u .who) xs) (look d xs) u e) ih
+    go false true e f rest ih =
+        ap (λ (t : Bool). cond t (aimed xs u ∷ rest) rest) (look-same d (u .who) xs h ∙ f)
+        ∙ ap₂ _∷_ (ap (λ (k : ℕ). to (look k xs) u) (eqb-true (u .who) d f)) ih
+    go false false e f rest ih = ap (λ (t : Bool). cond t (aimed xs u ∷ rest) rest) (look-same d (u .who) xs h ∙ f) ∙ ih

@@ -1,15 +1,15 @@
--- What a message's entries do to one instrument: its own entries are all that touch it, and nothing but instruments moves.
-use mathlib.Core.Path.{_≡_, refl, _∙_, ap, sym, subst}
-use mathlib.Core.Bool.{Bool, true, false, cond, true≢false}
-use mathlib.Core.List.{List, [], _∷_}
+-- What a message's entries do to one instrument: its own entries and those for all are all that touch it, and nothing but instruments moves.
+use mathlib.Core.Path.{_≡_, refl, _∙_, ap, ap₂, sym, subst}
+use mathlib.Core.Bool.{Bool, true, false, cond, _||_, true≢false}
+use mathlib.Core.List.{List, [], _∷_, map}
 use Prim.Native.Nat.{ℕ, _<_}
 use lib.Dec.{eqb}
-use lib.ListN.{length, length-set}
+use lib.ListN.{length, getD, set, length-map, length-set, List·getD-map}
 use lib.Seq.{getD-set-same, getD-set-other, map-set-same}
 use borrow.Author.Tests.{eqb-true, eqb-false}
-use Rattle.book.specs.Rules.{Lists, Outcome, leaves, breach, applied}
+use Rattle.book.specs.Rules.{Lists, Outcome, leaves, breach, forAll, applied}
 use Rattle.book.specs.declared.Update.{Update}
-use Rattle.board.specs.Board.{Inst, Board, idsOf, noInst, at, withInsts, put, broken}
+use Rattle.board.specs.Board.{Inst, Board, idsOf, speaksOf, noInst, at, withInsts, put, broken}
 use Rattle.board.specs.Count.{landed, hit, give, gives}
 use Rattle.board.specs.Snapshot.{andThen, run}
 use Rattle.board.specs.Calls.{mine}
@@ -42,19 +42,37 @@ hit-id u x = go (x .waiting) (applied (x .book) u)
     go false (leaves b) = refl
     go false (breach r) = refl
 
-give-at : (u : Update) (i : ℕ) (b : Board) → i < length (b .insts) → at i (give u b) ≡ cond (eqb (u .who) i) (hit u (at i b)) (at i b)
-unfolding give
-give-at u i b h = go (eqb (u .who) i) refl
+give-at : (u : Update) (i : ℕ) (b : Board) → i < length (b .insts) → at i (give u b) ≡ cond (speaksOf i u) (hit u (at i b)) (at i b)
+unfolding give hit
+give-at u i b h = go (forAll u) (eqb (u .who) i) refl
   where
-    go : (t : Bool) → eqb (u .who) i ≡ t → at i (put (u .who) (hit u (at (u .who) b)) b) ≡ cond t (hit u (at i b)) (at i b)
-    go true e =
+    go : (a t : Bool) → eqb (u .who) i ≡ t
+        → getD (cond a (map (hit u) (b .insts)) (set (b .insts) (u .who) (hit u (at (u .who) b)))) i noInst ≡ cond (a || t) (hit u (at i b)) (at i b)
+    go true t e = List·getD-map (hit u) (b .insts) i noInst
+    go false true e =
         let q : u .who ≡ i = eqb-true (u .who) i e in
         subst (λ (k : ℕ). at i (put k (hit u (at k b)) b) ≡ hit u (at i b)) (sym q) (at-put-same i (hit u (at i b)) b h)
-    go false e = at-put-other (u .who) i (hit u (at (u .who) b)) b (λ q. eqb-false (u .who) i e (sym q))
+    go false false e = at-put-other (u .who) i (hit u (at (u .who) b)) b (λ q. eqb-false (u .who) i e (sym q))
 
 give-length : (u : Update) (b : Board) → length (give u b .insts) ≡ length (b .insts)
 unfolding give
-give-length u b = length-set (b .insts) (u .who) (hit u (at (u .who) b))
+give-length u b = go (forAll u)
+  where
+    go : (a : Bool) → length (cond a (map (hit u) (b .insts)) (set (b .insts) (u .who) (hit u (at (u .who) b)))) ≡ length (b .insts)
+    go true = length-map (b .insts) (hit u)
+    go false = length-set (b .insts) (u .who) (hit u (at (u .who) b))
+
+ids-hit : (u : Update) (xs : List Inst) → idsOf (map (hit u) xs) ≡ idsOf xs
+ids-hit u [] = refl
+ids-hit u (x ∷ xs) = ap₂ _∷_ (hit-id u x) (ids-hit u xs)
+
+give-ids : (u : Update) (b : Board) → idsOf (give u b .insts) ≡ idsOf (b .insts)
+unfolding give
+give-ids u b = go (forAll u)
+  where
+    go : (a : Bool) → idsOf (cond a (map (hit u) (b .insts)) (set (b .insts) (u .who) (hit u (at (u .who) b)))) ≡ idsOf (b .insts)
+    go true = ids-hit u (b .insts)
+    go false = ids-put (u .who) (hit u (at (u .who) b)) b (hit-id u (at (u .who) b))
 
 -- A message's entries
 
@@ -65,18 +83,18 @@ gives-only [] b = refl
 gives-only (u ∷ us) b = gives-only us (give u b)
 
 pub gives-ids : (us : List Update) (b : Board) → idsOf (gives us b .insts) ≡ idsOf (b .insts)
-unfolding gives give
+unfolding gives
 gives-ids [] b = refl
-gives-ids (u ∷ us) b = gives-ids us (give u b) ∙ ids-put (u .who) (hit u (at (u .who) b)) b (hit-id u (at (u .who) b))
+gives-ids (u ∷ us) b = gives-ids us (give u b) ∙ give-ids u b
 
--- each instrument gets its own entries, and no others
+-- each instrument gets the entries that speak of it, and no others
 pub gives-at : (us : List Update) (i : ℕ) (b : Board) → i < length (b .insts) → at i (gives us b) ≡ hits (mine i us) (at i b)
 unfolding gives mine hits
 gives-at [] i b h = refl
 gives-at (u ∷ us) i b h =
     gives-at us i (give u b) (rw (give-length u b) h)
     ∙ ap (hits (mine i us)) (give-at u i b h)
-    ∙ go (eqb (u .who) i)
+    ∙ go (speaksOf i u)
   where
     go : (t : Bool) → hits (mine i us) (cond t (hit u (at i b)) (at i b)) ≡ hits (cond t (u ∷ mine i us) (mine i us)) (at i b)
     go true = refl

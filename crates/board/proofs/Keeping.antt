@@ -7,7 +7,7 @@ use native.Mathlib.Omega.{arith}
 use lib.Dec.{ltb, leb, eqb}
 use lib.ListN.{length, set, length-map}
 use borrow.Author.Tests.{ltb-true, ltb-false, leb-true, ne-eqb}
-use Rattle.book.specs.Rules.{Lists, empty, Outcome, leaves, breach, mostPlaces, applied}
+use Rattle.book.specs.Rules.{Lists, empty, Outcome, leaves, breach, mostPlaces, forAll, applied}
 use Rattle.book.specs.Canonical.{All}
 use Rattle.book.specs.declared.Update.{Update}
 use Rattle.message.specs.Message.{Message, numbered, snapshot, refused}
@@ -17,7 +17,7 @@ use Rattle.board.specs.Count.{mostQueued, overflows, countBy, aimed, joi
 use Rattle.board.specs.Snapshot.{take, snapBy, entriesOf, shown, run, after, tooWide, snap}
 use Rattle.board.specs.Feed.{feed}
 use Rattle.board.specs.Calls.{Call, fed, aside, calls, Throughout}
-use Rattle.board.specs.Ranges.{all, within, mostNumber, idFine, momentFine, entryFine, updateFine, shownFine, headFine, messageFine}
+use Rattle.board.specs.Ranges.{all, within, mostNumber, idFine, momentFine, entryFine, emptyFine, updateFine, shownFine, headFine, saidFine, messageFine}
 use Rattle.board.specs.Sound.{mostInsts, distinct, opens, heardFine, Each, SoundSide, SoundInst, Rising, SoundQueued, Sound}
 use Rattle.board.specs.Laws.{OpensSound, KeepsSound, InRange, StaysSound}
 use Rattle.board.proofs.Finding.{length-ids}
@@ -59,8 +59,10 @@ unfolding gives give
 gives-each depth [] b f e = e
 gives-each depth (u ∷ us) b f e =
     gives-each depth us (give u b) (f .1)
-    (each-set (SoundInst depth) (b .insts) (u .who) (hit u (at (u .who) b)) e
-    (λ l. hit-sound depth u (at (u .who) b) (f .0) (each-at (SoundInst depth) (b .insts) (u .who) noInst e l)))
+    (by-test (Each (SoundInst depth)) (forAll u)
+    (λ _. each-map (SoundInst depth) (SoundInst depth) (hit u) (λ x. hit-sound depth u x (f .0)) (b .insts) e)
+    (λ _. each-set (SoundInst depth) (b .insts) (u .who) (hit u (at (u .who) b)) e
+    (λ l. hit-sound depth u (at (u .who) b) (f .0) (each-at (SoundInst depth) (b .insts) (u .who) noInst e l))))
 
 -- The two parts of a sound board that a call works on: its instruments, and its queue from B up to the number h
 record Insts (depth : ℕ) (xs : List Inst) : Type 0 where
@@ -234,20 +236,32 @@ snap-sound d S us b s f = snap-by (λ o. Sound (o .board)) d S (shown us) b go
     go true true false false true _ _ _ _ = s
     go true true false false false g _ _ e = taken (ltb-true i (length (b .insts)) g) e
 
--- who an entry is for plays no part in its range
+-- who an entry is for plays no part in its range, and one for all keeps 0
+aimed-empty : (xs : List Inst) (u : Update) → emptyFine u ≡ true → emptyFine (aimed xs u) ≡ true
+aimed-empty xs u = go (eqb (u .what) 2) (forAll u) (eqb (u .who) 0)
+  where
+    go : (j a z : Bool) → j || (a && z) ≡ true → j || (a && eqb (cond a 0 (look (u .who) xs)) 0) ≡ true
+    go true a z h = refl
+    go false true z h = refl
+    go false false z h = h
+
 aimed-fine : (depth : ℕ) (xs : List Inst) (u : Update) → Fine depth u → updateFine depth (aimed xs u) ≡ true
 unfolding updateFine
-aimed-fine depth xs u h = h
+aimed-fine depth xs u = go (leb (u .what) 1) (emptyFine u) (emptyFine (aimed xs u)) _ _ (aimed-empty xs u)
+  where
+    go : (w p q a r : Bool) → (p ≡ true → q ≡ true) → cond w a (p && r) ≡ true → cond w a (q && r) ≡ true
+    go true p q a r k h = h
+    go false true q a r k h = rw (k refl) h
+    go false false q a r k h = absurd (true≢false (sym h))
 
 pub feed-sound : (m : Message) (b : Board) → Sound b → messageFine (b .depth) m ≡ true → Sound (feed m b .board)
 unfolding feed messageFine
 feed-sound (numbered n heard us) b s f =
-    let p = four (within 1 mostNumber n) (momentFine heard) (leb (length us) 64) (all (λ u. idFine (u .who) && updateFine (b .depth) u) us) f in
+    let p = four (within 1 mostNumber n) (momentFine heard) (leb (length us) 64) (all (saidFine (b .depth)) us) f in
     let q = within-true 1 mostNumber n (p .0) in
     number-sound n heard (map (aimed (b .insts)) us) (q .0) (q .1) (p .1) b s
     (each-map (Fine (b .depth)) (Fine (b .depth)) (aimed (b .insts)) (aimed-fine (b .depth) (b .insts)) us
-    (all-each (λ u. idFine (u .who) && updateFine (b .depth) u) (Fine (b .depth))
-    (λ u h. both (idFine (u .who)) (updateFine (b .depth) u) h .1) us (p .3)))
+    (all-each (saidFine (b .depth)) (Fine (b .depth)) (λ u h. both (forAll u || idFine (u .who)) (updateFine (b .depth) u) h .1) us (p .3)))
 feed-sound (snapshot h us) b s f =
     let p = three (headFine h) (leb (length us) 64) (all (shownFine (b .depth)) us) f in
     snap-sound (h .id) (h .last) us b s (all-each (shownFine (b .depth)) (λ u. shownFine (b .depth) u ≡ true) (λ u k. k) us (p .2))

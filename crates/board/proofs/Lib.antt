@@ -19,3 +19,4 @@ pub mod Taken
 pub mod Distinct
 pub mod Streams
 pub mod Overflow
+pub mod ForAll

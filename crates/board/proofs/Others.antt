@@ -1,12 +1,12 @@
--- Entries for one instrument never touch another's.
+-- Entries with a 48 never touch another's instrument.
 use mathlib.Core.Path.{_≡_, refl, _∙_, ap, sym}
-use mathlib.Core.Bool.{Bool, true, false}
-use mathlib.Core.List.{List, [], map}
+use mathlib.Core.Bool.{Bool, true, false, cond, _||_}
+use mathlib.Core.List.{List, [], _∷_, map}
 use Prim.Native.Nat.{ℕ, _+_, _≤_, _<_}
 use native.Mathlib.Omega.{arith}
-use lib.Dec.{ltb, leb}
+use lib.Dec.{ltb, leb, eqb}
 use lib.ListN.{length, getD, List·getD-eq-default}
-use borrow.Author.Tests.{ltb-true, ltb-false, le-leb, lt-leb}
+use borrow.Author.Tests.{ltb-true, ltb-false, le-leb, lt-leb, ne-eqb}
 use Rattle.book.specs.declared.Update.{Update}
 use Rattle.message.specs.Message.{numbered, snapshot}
 use Rattle.book.proofs.Tests.{by-test}
@@ -15,7 +15,8 @@ use Rattle.board.specs.Count.{to, aimed, gives, counted, joined, count, 
 use Rattle.board.specs.Snapshot.{shown}
 use Rattle.board.specs.Feed.{feed}
 use Rattle.board.specs.Calls.{inst, mine}
-use Rattle.board.specs.Laws.{Same, OwnEntriesOnly, OwnSnapshotOnly, GivesOwnOnly}
+use Rattle.board.specs.Sound.{Each}
+use Rattle.board.specs.Laws.{Same, OfAnother, OwnEntriesOnly, OwnSnapshotOnly, GivesOwnOnly}
 use Rattle.board.proofs.Finding.{look-found, mine-aimed}
 use Rattle.board.proofs.Giving.{hits, at-put-other, gives-at}
 use Rattle.board.proofs.Cases.{count-is, snap-is, take-is}
@@ -62,6 +63,15 @@ in-order n heard us b e =
     ap (λ (t : Bool). numberBy t (leb n (b .H + 1)) n heard us b) (lt-leb n (b .H) (omega arith))
     ∙ ap (λ (t : Bool). numberBy false t n heard us b) (le-leb n (b .H + 1) (omega arith))
 
+-- none of a message's entries speaks of one, where each is for another
+none-mine : (d : ℕ) (us : List Update) → Each (OfAnother d) us → mine d us ≡ []
+unfolding mine
+none-mine d [] h = refl
+none-mine d (u ∷ us) h =
+    ap (λ (a : Bool). cond (a || eqb (u .who) d) (u ∷ mine d us) (mine d us)) (h .0 .0)
+    ∙ ap (λ (t : Bool). cond t (u ∷ mine d us) (mine d us)) (ne-eqb (u .who) d (h .0 .1))
+    ∙ none-mine d us (h .1)
+
 pub own-entries-only : OwnEntriesOnly
 unfolding feed
 own-entries-only d n heard us b e h =
@@ -72,7 +82,7 @@ own-entries-only d n heard us b e h =
     by-index (look d (b .insts)) b (inst d c ≡ inst d b)
     (λ l. k
     ∙ ap (λ (o : Out). at (look d (b .insts)) (o .board)) (in-order n heard m b e)
-    ∙ count-own-only (look d (b .insts)) 0 n heard m b (mine-aimed d (b .insts) l us ∙ ap (map (to (look d (b .insts)))) h))
+    ∙ count-own-only (look d (b .insts)) 0 n heard m b (mine-aimed d (b .insts) l us ∙ ap (map (to (look d (b .insts)))) (none-mine d us h)))
     (λ l. k ∙ none-past (look d (b .insts)) b c s l)
 
 -- Snapshots

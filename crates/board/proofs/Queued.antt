@@ -4,10 +4,10 @@ use mathlib.Core.Bool.{Bool, true, false, cond, _&&_}
 use mathlib.Core.List.{List, [], _∷_, _++_}
 use Prim.Native.Nat.{ℕ, _≤_}
 use native.Mathlib.Omega.{arith}
-use lib.Dec.{ltb, eqb}
+use lib.Dec.{ltb}
 use borrow.Author.Tests.{ltb-true}
 use Rattle.book.specs.declared.Update.{Update}
-use Rattle.board.specs.Board.{Queued}
+use Rattle.board.specs.Board.{Queued, speaksOf}
 use Rattle.board.specs.Count.{joining}
 use Rattle.board.specs.Snapshot.{after}
 use Rattle.board.specs.Sound.{Each, Rising, SoundQueued}
@@ -45,7 +45,7 @@ joining-each depth n k (u ∷ us) f = go (ltb (u .who) k) refl (joining-each dep
 pub after-each : (depth k i S : ℕ) (qs : List Queued) → Each (SoundQueued depth k) qs → Each (Fine depth) (after i S qs)
 unfolding after
 after-each depth k i S [] e = tt
-after-each depth k i S (q ∷ qs) e = go (eqb (q .update .who) i && ltb S (q .number)) (after-each depth k i S qs (e .1))
+after-each depth k i S (q ∷ qs) e = go (speaksOf i (q .update) && ltb S (q .number)) (after-each depth k i S qs (e .1))
   where
     go : (t : Bool) → Each (Fine depth) (after i S qs) → Each (Fine depth) (cond t (q .update ∷ after i S qs) (after i S qs))
     go true r = (e .0 .update, r)

@@ -17,10 +17,11 @@ use Rattle.board.specs.Snapshot.{shown, run, after, take, tooWide, snapB
 use Rattle.board.specs.Feed.{feed}
 use Rattle.board.specs.Calls.{Call, fed, aside, called, calls, Throughout, isCounted, Live, mine}
 use Rattle.board.specs.Demand.{Truth, Fair, Recovers}
+use Rattle.board.specs.Sound.{Each}
 use Rattle.board.proofs.Running.{run-to}
 use Rattle.board.proofs.Finding.{look-found, mine-aimed}
 use Rattle.board.proofs.Giving.{hits, at-put-same, at-put-other, gives-only, gives-at, live-before, live-ran}
-use Rattle.board.proofs.Queueing.{above, above-map, after-append, after-joining}
+use Rattle.board.proofs.Queueing.{FirstForAll, aimed-first, above, above-map, after-append, after-joining}
 use Rattle.board.proofs.Pending.{pending, pending-none, replay-true}
 use Rattle.board.proofs.Cases.{count-is, number-is, snap-by, take-is}
 use Rattle.board.proofs.Answers.{count-counted}
@@ -63,7 +64,7 @@ module _ (s : ℕ → List Update) (t : ℕ → Lists) (i : ℕ) where
 
   module _ (truth : Truth s t) where
     -- Message n, whose entries for the instrument are the stream's
-    module _ (h n : ℕ) (us : List Update) (next : n ≡ suc h) (own : mine i us ≡ map (to i) (s n)) where
+    module _ (h n : ℕ) (us : List Update) (next : n ≡ suc h) (first : Each FirstForAll us) (own : mine i us ≡ map (to i) (s n)) where
       live-next : (b : Board) → i < length (b .insts) → LiveTrue h (at i b) → LiveTrue n (at i (gives us b))
       live-next b inside g l =
           let y = hits (mine i us) (at i b) in
@@ -80,7 +81,7 @@ module _ (s : ℕ → List Update) (t : ℕ → Lists) (i : ℕ) where
       unfolding pending
       full-next b inside g S l =
           after-append i S (b .queue) (joining n (length (b .insts)) us)
-          ∙ ap₂ _++_ (g .full S l) (after-joining i S n (length (b .insts)) inside us ∙ ap (above S n) own ∙ above-map (to i) S n (s n))
+          ∙ ap₂ _++_ (g .full S l) (after-joining i S n (length (b .insts)) inside us first ∙ ap (above S n) own ∙ above-map (to i) S n (s n))
           ∙ sym (map-append (to i) (pending s S h) (above S n (s n)))
           ∙ ap (map (to i)) (subst (λ (m : ℕ). pending s S h ++ above S m (s m) ≡ pending s S m) (sym next) refl)
 
@@ -102,15 +103,15 @@ module _ (s : ℕ → List Update) (t : ℕ → Lists) (i : ℕ) where
           queued true = holds-let-go (withInsts (gives us (joined true n us c) .insts) c) (live-next (joined true n us c) inside (g .live))
           queued false = record { live = live-next (joined false n us c) inside (g .live); full = full-next b inside g }
 
-    number-holds : (n heard : ℕ) (us : List Update) (b : Board) → i < length (b .insts)
+    number-holds : (n heard : ℕ) (us : List Update) (b : Board) → i < length (b .insts) → Each FirstForAll us
         → (isCounted (number n heard us b .answer) ≡ true → mine i us ≡ map (to i) (s n))
         → Holds b → Holds (number n heard us b .board)
-    number-holds n heard us b inside own g =
+    number-holds n heard us b inside first own g =
         number-is (λ o. (isCounted (o .answer) ≡ true → mine i us ≡ map (to i) (s n)) → Holds (o .board)) n heard us b
         (λ _ _ _. g)
-        (λ e own. count-holds (b .H) n us e (own (count-counted 0 n heard us b refl)) 0 heard b inside g)
+        (λ e own. count-holds (b .H) n us e first (own (count-counted 0 n heard us b refl)) 0 heard b inside g)
         (λ l own.
-        count-holds (n - 1) n us (omega arith) (own (count-counted 1 n heard us (cleared n b) refl)) 1 heard (cleared n b)
+        count-holds (n - 1) n us (omega arith) first (own (count-counted 1 n heard us (cleared n b) refl)) 1 heard (cleared n b)
         (rw (length-map (b .insts) clear) inside)
         (holds-waiting (n - 1) (cleared n b) (ap (λ (x : Inst). x .waiting) (List·getD-map clear (b .insts) i noInst)) (omega arith) refl))
         own
@@ -164,7 +165,7 @@ module _ (d : ℕ) (s : ℕ → List Update) (t : ℕ → Lists) (i : ℕ) where
       → Holds s t i b → Holds s t i (called c b .board)
   unfolding feed
   call-holds truth (fed (numbered n heard us)) b found inside fair g =
-      number-holds s t i truth n heard (map (aimed (b .insts)) us) b inside (λ a. own (fair a)) g
+      number-holds s t i truth n heard (map (aimed (b .insts)) us) b inside (aimed-first (b .insts) us) (λ a. own (fair a)) g
     where
       own : mine d us ≡ s n → mine i (map (aimed (b .insts)) us) ≡ map (to i) (s n)
       own e =

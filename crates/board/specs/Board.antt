@@ -4,7 +4,7 @@ use mathlib.Core.List.{List, [], _∷_, map}
 use Prim.Native.Nat.{ℕ, _+_}
 use lib.Dec.{eqb}
 use lib.ListN.{getD, set}
-use Rattle.book.specs.Rules.{Lists, empty}
+use Rattle.book.specs.Rules.{Lists, empty, forAll}
 use Rattle.book.specs.declared.Update.{Update}
 
 -- A followed instrument: its SecurityID, whether it is Waiting (else Live), why it last broke (0, 1 or 2), its book.
@@ -14,7 +14,7 @@ pub record Inst : Type 0 where
   pub reason : ℕ
   pub book : Lists
 
--- A queued entry: the number of its message, and what it says; who is the instrument's index.
+-- A queued entry: the number of its message, and what it says; who is the instrument's index, and 0 where it is for all.
 pub record Queued : Type 0 where
   pub number : ℕ
   pub update : Update
@@ -61,6 +61,10 @@ waitingIn (x ∷ xs) = cond (x .waiting) 1 0 + waitingIn xs
 unfoldable pub look : ℕ → List Inst → ℕ
 look d [] = 0
 look d (x ∷ xs) = cond (eqb (x .id) d) 0 (look d xs + 1)
+
+-- An entry speaks of the instrument that it names, by SecurityID in a message and by index on a board; one for all speaks of every one.
+abbrev pub speaksOf : ℕ → Update → Bool
+speaksOf d u = forAll u || eqb (u .who) d
 
 -- The instrument at an index.
 abbrev pub noInst : Inst

@@ -6,7 +6,7 @@ use Prim.Native.Nat.{ℕ}
 use lib.Dec.{eqb}
 use Rattle.book.specs.declared.Update.{Update}
 use Rattle.message.specs.Message.{Message}
-use Rattle.board.specs.Board.{Inst, Board, Out, out, look, at}
+use Rattle.board.specs.Board.{Inst, Board, Out, out, look, speaksOf, at}
 use Rattle.board.specs.Feed.{feed}
 
 -- A call: a message fed, or one that leaves the board as it is (a quote, a writing, a refusal 17 or 18), with its answer.
@@ -46,7 +46,7 @@ inst d b = at (look d (b .insts)) b
 abbrev pub Live : ℕ → Board → Type 0
 Live d b = inst d b .waiting ≡ false
 
--- The entries for d among a message's.
+-- The entries that speak of d among a message's: its own and those for all.
 unfoldable pub mine : ℕ → List Update → List Update
 mine d [] = []
-mine d (u ∷ us) = cond (eqb (u .who) d) (u ∷ mine d us) (mine d us)
+mine d (u ∷ us) = cond (speaksOf d u) (u ∷ mine d us) (mine d us)

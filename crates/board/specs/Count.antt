@@ -3,24 +3,25 @@ use mathlib.Core.Bool.{Bool, true, false, cond}
 use mathlib.Core.List.{List, [], _∷_, _++_, map}
 use Prim.Native.Nat.{ℕ, _+_, _-_}
 use lib.Dec.{ltb, leb}
-use lib.ListN.{length}
-use Rattle.book.specs.Rules.{Lists, empty, Outcome, leaves, breach, applied}
+use lib.ListN.{length, getD, set}
+use Rattle.book.specs.Rules.{Lists, empty, Outcome, leaves, breach, forAll, applied}
 use Rattle.book.specs.declared.Update.{Update}
-use Rattle.board.specs.Board.{Inst, Queued, Board, Out, out, anyWaiting, look, at, withQueue, put, broken, letGo, settled}
+use Rattle.board.specs.Board.{Inst, Queued, Board, Out, out, anyWaiting, look, noInst, withInsts, withQueue, broken, letGo, settled}
 
 -- The queue holds at most 256.
 abbrev pub mostQueued : ℕ
 mostQueued = 256
 
--- An entry with another who.
+-- An entry with another who; one for all has 0.
 abbrev pub to : ℕ → Update → Update
-to i u = record { who = i; what = u .what; action = u .action; place = u .place; entry = u .entry }
+to i u = record { who = cond (forAll u) 0 i; what = u .what; action = u .action; place = u .place; entry = u .entry }
 
 -- An entry of a message with the index of its instrument for the SecurityID.
 abbrev pub aimed : List Inst → Update → Update
 aimed xs u = to (look (u .who) xs) u
 
--- The entries for followed instruments, as they join the queue; k is how many instruments there are.
+-- The entries for followed instruments, as they join the queue; k is how many instruments there are. One for all joins as one entry: its
+-- who is 0, and there is an instrument.
 unfoldable pub joining : ℕ → ℕ → List Update → List Queued
 joining n k [] = []
 joining n k (u ∷ us) = cond (ltb (u .who) k) (record { number = n; update = u } ∷ joining n k us) (joining n k us)
@@ -33,9 +34,13 @@ landed x (breach r) = broken x r
 unfoldable pub hit : Update → Inst → Inst
 hit u x = cond (x .waiting) x (landed x (applied (x .book) u))
 
+-- The instrument that an entry names gets it, and each of them one that is for all.
+abbrev pub given : Update → List Inst → List Inst
+given u xs = cond (forAll u) (map (hit u) xs) (set xs (u .who) (hit u (getD xs (u .who) noInst)))
+
 -- Live instruments get their entries in order.
 unfoldable pub give : Update → Board → Board
-give u b = put (u .who) (hit u (at (u .who) b)) b
+give u b = withInsts (given u (b .insts)) b
 
 unfoldable pub gives : List Update → Board → Board
 gives [] b = b

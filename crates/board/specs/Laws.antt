@@ -6,6 +6,7 @@ use mathlib.Core.Logic.{_≢_}
 use Prim.Native.Nat.{ℕ, _+_, _≤_, _<_}
 use lib.Dec.{leb, ltb}
 use lib.ListN.{length}
+use Rattle.book.specs.Rules.{forAll}
 use Rattle.book.specs.declared.Update.{Update}
 use Rattle.message.specs.Message.{Message, Head, numbered, snapshot, refused}
 use Rattle.board.specs.Board.{Inst, Board, opened, idsOf, anyWaiting, waitingIn, look, at}
@@ -13,7 +14,7 @@ use Rattle.board.specs.Count.{gives}
 use Rattle.board.specs.Feed.{feed}
 use Rattle.board.specs.Calls.{Call, fed, aside, calls, Throughout, changes, inst, mine}
 use Rattle.board.specs.Ranges.{within, messageFine}
-use Rattle.board.specs.Sound.{opens, soundBoard}
+use Rattle.board.specs.Sound.{opens, soundBoard, Each}
 
 -- Opening makes a sound board.
 abbrev pub OpensSound : Type 0
@@ -45,11 +46,14 @@ pub record Same (b c : Board) : Type 0 where
 abbrev pub FeedsSame : Type 0
 FeedsSame = (m : Message) (b : Board) → Same (feed m b .board) b
 
--- Entries for one instrument never touch another's: one that has no entry in a message in order stays as it is, with its book,
--- mark and reason, and so does one that a snapshot isn't for.
+-- Entries for one instrument never touch another's; since document 02, K4, that is said of entries with a 48 only. An instrument stays as
+-- it is, with its book, mark and reason, where each entry of a message in order has the 48 of another, and where a snapshot isn't for it.
+abbrev pub OfAnother : ℕ → Update → Type 0
+OfAnother d u = (forAll u ≡ false) × (u .who ≢ d)
+
 abbrev pub OwnEntriesOnly : Type 0
 OwnEntriesOnly =
-    (d n heard : ℕ) (us : List Update) (b : Board) → n ≡ b .H + 1 → mine d us ≡ []
+    (d n heard : ℕ) (us : List Update) (b : Board) → n ≡ b .H + 1 → Each (OfAnother d) us
     → inst d (feed (numbered n heard us) b .board) ≡ inst d b
 
 abbrev pub OwnSnapshotOnly : Type 0

@@ -9,3 +9,4 @@ pub mod Sound
 pub mod Laws
 pub mod Loss
 pub mod Overflow
+pub mod ForAll

@@ -1,5 +1,5 @@
 -- The ranges of document 01, "Fields": when an entry, a queued entry and a message lie in them.
-use mathlib.Core.Bool.{Bool, true, cond, _&&_}
+use mathlib.Core.Bool.{Bool, true, cond, _&&_, _||_}
 use mathlib.Core.List.{List, [], _∷_}
 use Prim.Native.Nat.{ℕ}
 use lib.Dec.{ltb, leb, eqb}
@@ -7,6 +7,7 @@ use lib.IntN.{ℤ, natAbs}
 use lib.ListN.{length}
 use Rattle.book.specs.declared.Entry.{Entry}
 use Rattle.book.specs.declared.Update.{Update}
+use Rattle.book.specs.Rules.{forAll}
 use Rattle.holding.specs.Prices.{top}
 use Rattle.holding.specs.Moments.{moments}
 use Rattle.holding.specs.OrderIds.{idSound}
@@ -58,12 +59,16 @@ entryFine depth e =
 unfoldable pub noneFine : Entry → Bool
 noneFine e = eqb (natAbs (e .price)) 0 && (eqb (e .size) 0 && (eqb (e .by) 0 && (eqb (e .more) 0 && eqb (e .moment) 0)))
 
--- What an entry of an X says: a bid (0) or an offer (1) with its action and 290, where new and change need their values; or J (2).
+-- J of one instrument (2), or for all (3), and then it names none.
+abbrev pub emptyFine : Update → Bool
+emptyFine u = eqb (u .what) 2 || (forAll u && eqb (u .who) 0)
+
+-- What an entry of an X says: a bid (0) or an offer (1) with its action and 290, where new and change need their values; or J.
 unfoldable pub updateFine : ℕ → Update → Bool
 updateFine depth u =
     cond (leb (u .what) 1)
     (leb (u .action) 4 && (within 1 65535 (u .place) && cond (leb (u .action) 1) (entryFine depth (u .entry)) (noneFine (u .entry))))
-    (eqb (u .what) 2 && (eqb (u .action) 0 && (eqb (u .place) 0 && noneFine (u .entry))))
+    (emptyFine u && (eqb (u .action) 0 && (eqb (u .place) 0 && noneFine (u .entry))))
 
 -- An entry of a W: a bid or an offer, all new.
 unfoldable pub shownFine : ℕ → Update → Bool
@@ -75,9 +80,13 @@ headFine h =
     within 1 mostNumber (h .number)
     && (momentFine (h .heard) && (idFine (h .id) && (leb (h .last) mostNumber && within 1 mostNumber (h .loops))))
 
+-- An entry of an X names an instrument, but where it is for all.
+abbrev pub saidFine : ℕ → Update → Bool
+saidFine depth u = (forAll u || idFine (u .who)) && updateFine depth u
+
 -- A message in range on a channel of this depth kind; 268 is at most 64.
 unfoldable pub messageFine : ℕ → Message → Bool
 messageFine depth (numbered n heard us) =
-    within 1 mostNumber n && (momentFine heard && (leb (length us) 64 && all (λ u. idFine (u .who) && updateFine depth u) us))
+    within 1 mostNumber n && (momentFine heard && (leb (length us) 64 && all (saidFine depth) us))
 messageFine depth (snapshot h us) = headFine h && (leb (length us) 64 && all (shownFine depth) us)
 messageFine depth (refused why) = true

@@ -7,7 +7,7 @@ use lib.ListN.{length}
 use Rattle.book.specs.Rules.{Lists, Outcome, leaves, breach, mostPlaces, applied}
 use Rattle.book.specs.declared.Entry.{Entry}
 use Rattle.book.specs.declared.Update.{Update}
-use Rattle.board.specs.Board.{Inst, Queued, Board, Out, out, look, at, put, broken, settled}
+use Rattle.board.specs.Board.{Inst, Queued, Board, Out, out, look, speaksOf, at, put, broken, settled}
 
 -- The entries of one side of a W, in the order written: 0 bids, 1 offers.
 unfoldable pub entriesOf : ℕ → List Update → List Entry
@@ -26,10 +26,10 @@ unfoldable pub run : List Update → Lists → Outcome Lists
 run [] b = leaves b
 run (u ∷ us) b = andThen (applied b u) (run us)
 
--- The queued entries for instrument i with numbers above S.
+-- The queued entries that speak of instrument i, with numbers above S.
 unfoldable pub after : ℕ → ℕ → List Queued → List Update
 after i S [] = []
-after i S (q ∷ qs) = cond (eqb (q .update .who) i && ltb S (q .number)) (q .update ∷ after i S qs) (after i S qs)
+after i S (q ∷ qs) = cond (speaksOf i (q .update) && ltb S (q .number)) (q .update ∷ after i S qs) (after i S qs)
 
 -- Its book is set and it is Live, with reason 0; or the replay broke, and it stays Waiting with the reason.
 abbrev pub live : Inst → Lists → Inst

@@ -20,8 +20,11 @@ pub const BID: u64 = 0;
 // an offer,
 pub const OFFER: u64 = 1;
 
-// or the empty book, as which any number above is taken too.
+// the empty book of one instrument,
 pub const J: u64 = 2;
+
+// or the empty book of all instruments, as which a book takes any number above too.
+pub const J_FOR_ALL: u64 = 3;
 
 // What an entry does: new moves the rest down,
 pub const NEW: u64 = 0;
@@ -66,8 +69,8 @@ pub struct Book {
     pub offers: Side,
 }
 
-// One entry of a message. who is the instrument: its SecurityID in a message, its index on a board. what: 0 bid,
-// 1 offer, 2 J. action: 0 new, 1 change, 2 delete, 3 delete thru, 4 delete from. Places count from 1.
+// One entry of a message. who is the instrument: its SecurityID in a message, its index on a board; 0 where the entry is for all.
+// what: 0 bid, 1 offer, 2 J, 3 J for all. action: 0 new, 1 change, 2 delete, 3 delete thru, 4 delete from. Places count from 1.
 pub struct Update {
     pub who: u64,
     pub what: u64,

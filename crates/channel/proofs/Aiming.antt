@@ -14,11 +14,11 @@ use Rattle.cells.specs.Cells.{tab, updateAt}
 use Rattle.cells.specs.Runs.{updatesIn}
 use Rattle.cells.proofs.Tables.{tab-ext, tab-snoc, map-append}
 use Rattle.cells.proofs.Windows.{entry-ext, update-ext}
-use Rattle.board.specs.Board.{Inst, look}
+use Rattle.board.specs.Board.{Inst}
 use Rattle.board.specs.Count.{aimed}
 use Rattle.board.specs.Snapshot.{entriesOf, shown}
 use Rattle.store.specs.Meaning.{State, boardIn}
-use Rattle.channel.specs.Feeds.{aimedAt, Aims}
+use Rattle.channel.specs.Feeds.{indexIn, aimedAt, Aims}
 
 -- nothing is aimed yet
 pub aims-none : (s : State) (xs : List ℕ) → Aims s 0 xs xs
@@ -27,7 +27,7 @@ aims-none s xs = record { size = refl; entries = refl; behind = λ k l. refl }
 
 -- one entry more: its who is the index k
 module _ (s : State) (i k : ℕ) (xs ys : List ℕ) (h : Aims s i xs ys) (room : i * 9 + 9 ≤ length xs)
-    (found : k ≡ look (getD ys (i * 9) 0) (boardIn s .insts)) where
+    (found : k ≡ indexIn s (getD ys (i * 9) 0) (getD ys (i * 9 + 1) 0)) where
   abbrev zs : List ℕ
   zs = set ys (i * 9) k
 
@@ -45,8 +45,8 @@ module _ (s : State) (i k : ℕ) (xs ys : List ℕ) (h : Aims s i xs ys) (room :
 
   own : updateAt zs (i * 9) ≡ aimed (boardIn s .insts) (updateAt xs (i * 9))
   own =
-      let w : getD zs (i * 9) 0 ≡ look (getD xs (i * 9) 0) (boardIn s .insts) =
-      getD-set-same ys (i * 9) k 0 (omega (arith, h .size)) ∙ rw (h .behind (i * 9) (omega arith)) at found in
+      let w : getD zs (i * 9) 0 ≡ indexIn s (getD xs (i * 9) 0) (getD xs (i * 9 + 1) 0) =
+      getD-set-same ys (i * 9) k 0 (omega (arith, h .size)) ∙ rw (h .behind (i * 9) (omega arith), h .behind (i * 9 + 1) (omega arith)) at found in
       rw (
         w,
         later (i * 9 + 1) (omega arith),

@@ -31,9 +31,9 @@ use Rattle.store.proofs.Cleared.{gap-canon}
 use Rattle.store.proofs.Regions.{Agree, agree-sets, agree-zeros, agree-none, agree-wider, agree-then}
 use Rattle.queue.specs.Joins.{letGoS, settleS, joinOneS, joinAllS, howMany, overS, joinS}
 use Rattle.queue.proofs.Joining.{one-followed, one-queued, join-formed}
-use Rattle.deliver.specs.Gives.{applyS, breakS, landS, giveS, giveAllS}
+use Rattle.deliver.specs.Gives.{applyS, breakS, landS, giveToS, giveS, giveAllS}
 use Rattle.deliver.proofs.Applying.{applies}
-use Rattle.deliver.proofs.Giving.{give-formed}
+use Rattle.deliver.proofs.Giving.{give-stays, give-formed}
 use Rattle.count.specs.Counts.{countedS, countS, numberS}
 use Rattle.count.proofs.Board.{counted-formed}
 use Rattle.taking.specs.Replays.{replayB, liveS, takeS, snapS}
@@ -95,19 +95,18 @@ break-within i r s h =
     agree-then (agree-wider 32 7168 (omega arith) (omega arith) (agree-zeros xs (bidsOf i) 256))
     (agree-wider 32 7168 (omega arith) (omega arith) (agree-sets ys (reasonOf i) (r ∷ []) 1 refl))
 
-land-within : (u : Update) (s : State) → Formed s → u .who < s .head .followed → Within s (landS (u .who) (applyS (u .who) u (s .store)) s)
-land-within u s f l =
-    let i = u .who in
+land-within : (i : ℕ) (u : Update) (s : State) → Formed s → i < s .head .followed → Within s (landS i (applyS i u (s .store)) s)
+land-within i u s f l =
     let t = applyS i u (s .store) in
     let few : s .head .followed ≤ 16 = f .few in
     let a : Agree 32 7168 (s .store) (t .store) = agree-wider 32 7168 (omega arith) (omega arith) (applies s f i l u .agree) in
     by-test (Within s) (eqb (t .reason) 0) (λ _. a) (λ _. agree-then a (break-within i (t .reason) (st (s .head) (t .store)) (omega arith)))
 
+to-within : (i : ℕ) (u : Update) (s : State) → Formed s → i < s .head .followed → Within s (giveToS i u s)
+to-within i u s f l = by-test (Within s) (marked (s .head .marks) i) (λ _. agree-none 32 7168 (s .store)) (λ _. land-within i u s f l)
+
 give-within : (u : Update) (s : State) → Formed s → Within s (giveS u s)
-unfolding giveS
-give-within u s f =
-    by-test (Within s) (leb (s .head .followed) (u .who)) (λ _. agree-none 32 7168 (s .store))
-    (λ e. by-test (Within s) (marked (s .head .marks) (u .who)) (λ _. agree-none 32 7168 (s .store)) (λ _. land-within u s f (leb-false _ _ e)))
+give-within u s f = give-stays (Within s) u s f (agree-none 32 7168 (s .store)) (λ i t g l w. agree-then w (to-within i u t g l))
 
 gives-within : (us : List Update) (s : State) → Formed s → Within s (giveAllS us s)
 unfolding giveAllS

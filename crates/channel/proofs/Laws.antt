@@ -1,6 +1,5 @@
 -- The laws of a message on the store.
 use mathlib.Core.Path.{_≡_, refl, ap, _∙_}
-use mathlib.Core.Bool.{_&&_}
 use mathlib.Core.List.{List}
 use Prim.Native.Nat.{ℕ}
 use native.Mathlib.Omega.{arith}
@@ -9,7 +8,7 @@ use lib.ListN.{length}
 use lib.Seq.{ext-getD}
 use borrow.Author.Tests.{leb-true}
 use Rattle.message.specs.Message.{Message, numbered, snapshot, refused}
-use Rattle.board.specs.Ranges.{all, within, mostNumber, idFine, momentFine, updateFine, shownFine, headFine, messageFine}
+use Rattle.board.specs.Ranges.{all, within, mostNumber, momentFine, shownFine, headFine, saidFine, messageFine}
 use Rattle.board.proofs.Tested.{three, four}
 use Rattle.store.specs.Meaning.{State}
 use Rattle.store.specs.Canon.{Formed}
@@ -21,7 +20,7 @@ use Rattle.channel.proofs.Beyond.{Within, front, beyond, feed-within}
 pub fine-is-fair : FineIsFair
 unfolding messageFine
 fine-is-fair depth (numbered n heard us) e =
-    leb-true (length us) 64 (four (within 1 mostNumber n) (momentFine heard) (leb (length us) 64) (all (λ u. idFine (u .who) && updateFine depth u) us) e .2)
+    leb-true (length us) 64 (four (within 1 mostNumber n) (momentFine heard) (leb (length us) 64) (all (saidFine depth) us) e .2)
 fine-is-fair depth (snapshot h us) e = leb-true (length us) 64 (three (headFine h) (leb (length us) 64) (all (shownFine depth) us) e .1)
 fine-is-fair depth (refused why) e = tt
 

@@ -12,7 +12,18 @@ ghost use Rattle.message.specs.Message.{said};
 ghost use Rattle.store.specs.Layout.{storeSize};
 ghost use Rattle.store.specs.Meaning.{st};
 ghost use Rattle.store.specs.Canon.{Canon};
-ghost use Rattle.channel.specs.Feeds.{Aims, Feeds};
+ghost use Rattle.channel.specs.Feeds.{indexIn, Aims, Feeds};
+
+// The index of the instrument that an entry names, or 0 where it is for all.
+fn index(store: &[u64], h: Heading, id: u64, what: u64) -> usize
+    requires { ⌜ (storeSize ≤ length (now store)) × (h .followed ≤ 16) ⌝ }
+    ensures { λ r. ⌜ r ≡ indexIn (st h (now (store .entry))) id what ⌝ }
+{
+    if what == book::J_FOR_ALL {
+        return 0;
+    }
+    store::find(store, h, id)
+}
 
 // The first `count` entries of a run get the index of their instrument for the SecurityID.
 fn aim(store: &[u64], h: Heading, run: &mut [u64], count: usize)
@@ -23,7 +34,8 @@ fn aim(store: &[u64], h: Heading, run: &mut [u64], count: usize)
     while i < count {
         let at = i * cells::UPDATE;
         let id = run[at];
-        let k = store::find(store, h, id);
+        let what = run[at + cells::UPDATE_WHAT];
+        let k = index(store, h, id, what);
         run[at] = k as u64;
         i += 1;
     }

@@ -3,3 +3,4 @@ pub mod Working
 pub mod Applying
 pub mod Breaking
 pub mod Giving
+pub mod Ways

@@ -1,12 +1,13 @@
 -- Entries given to Live instruments, in the store.
 use mathlib.Core.Bool.{cond}
 use mathlib.Core.List.{List, [], _∷_}
-use Prim.Native.Nat.{ℕ}
+use Prim.Native.Nat.{ℕ, zero, suc}
 use lib.Dec.{leb, eqb}
 use lib.Seq.{sets}
 use Rattle.book.specs.declared.Side.{Side}
 use Rattle.book.specs.declared.Update.{Update}
 use Rattle.book.specs.declared.Done.{Done}
+use Rattle.book.specs.Rules.{forAll}
 use Rattle.book.specs.Sides.{sideStep}
 use Rattle.cells.specs.Cells.{zeros, sideAt, sideWords}
 use Rattle.heading.specs.Marks.{marked, withMark}
@@ -43,11 +44,19 @@ breakS i r s =
 abbrev pub landS : ℕ → Taken → State → State
 landS i t s = cond (eqb (t .reason) 0) (st (s .head) (t .store)) (breakS i (t .reason) (st (s .head) (t .store)))
 
--- An entry, if it is for a followed instrument that is Live.
+-- Instrument i gets an entry, if it is Live.
+abbrev pub giveToS : ℕ → Update → State → State
+giveToS i u s = cond (marked (s .head .marks) i) s (landS i (applyS i u (s .store)) s)
+
+-- The first k instruments get it.
+unfoldable pub giveEachS : ℕ → Update → State → State
+giveEachS zero u s = s
+giveEachS (suc k) u s = giveToS k u (giveEachS k u s)
+
+-- An entry for all is for each that is followed, and any other for the instrument that it names, if that is followed.
 unfoldable pub giveS : Update → State → State
 giveS u s =
-    cond (leb (s .head .followed) (u .who)) s
-    (cond (marked (s .head .marks) (u .who)) s (landS (u .who) (applyS (u .who) u (s .store)) s))
+    cond (forAll u) (giveEachS (s .head .followed) u s) (cond (leb (s .head .followed) (u .who)) s (giveToS (u .who) u s))
 
 unfoldable pub giveAllS : List Update → State → State
 giveAllS [] s = s

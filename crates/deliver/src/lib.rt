@@ -10,7 +10,7 @@ ghost use Rattle.cells.specs.Runs.{updateSize, updatesIn};
 ghost use Rattle.store.specs.Layout.{storeSize};
 ghost use Rattle.store.specs.Meaning.{st};
 ghost use Rattle.store.specs.Canon.{Formed};
-ghost use Rattle.deliver.specs.Gives.{taken, onSideS, applyS, breakS, giveS, giveAllS};
+ghost use Rattle.deliver.specs.Gives.{taken, onSideS, applyS, breakS, giveToS, giveEachS, giveS, giveAllS};
 
 // The side at `at` takes an entry: 0, or the reason of the breach.
 fn on_side(store: &mut [u64], at: usize, u: Update) -> u64
@@ -55,16 +55,11 @@ pub fn break_off(store: &mut [u64], h: Heading, i: usize, reason: u64) -> Headin
     h.wait(i)
 }
 
-// An entry, to its instrument if that is followed and Live.
-fn give(store: &mut [u64], h: Heading, u: Update) -> Heading
-    requires { ⌜ (storeSize ≤ length (now store)) × (h .followed ≤ 16) ⌝ }
-    ensures { λ r. ⌜ st r (now (store .exit)) ≡ giveS u (st h (now (store .entry))) ⌝ }
+// An entry, to instrument i if that is Live.
+fn give_to(store: &mut [u64], h: Heading, i: usize, u: Update) -> Heading
+    requires { ⌜ (storeSize ≤ length (now store)) × (i < 16) ⌝ }
+    ensures { λ r. ⌜ st r (now (store .exit)) ≡ giveToS i u (st h (now (store .entry))) ⌝ }
 {
-    let followed = h.followed as u64;
-    if followed <= u.who {
-        return h;
-    }
-    let i = u.who as usize;
     if h.waits(i) {
         return h;
     }
@@ -73,6 +68,35 @@ fn give(store: &mut [u64], h: Heading, u: Update) -> Heading
         return h;
     }
     break_off(store, h, i, reason)
+}
+
+// An entry, to each of the first k instruments that is Live.
+fn give_each(store: &mut [u64], h: Heading, k: usize, u: Update) -> Heading
+    requires { ⌜ (storeSize ≤ length (now store)) × (k ≤ 16) ⌝ }
+    ensures { λ r. ⌜ st r (now (store .exit)) ≡ giveEachS k u (st h (now (store .entry))) ⌝ }
+{
+    let mut g = h;
+    let mut i = 0usize;
+    while i < k {
+        g = give_to(store, g, i, u);
+        i += 1;
+    }
+    g
+}
+
+// An entry: one for all to all that are followed, any other to its instrument if that is followed.
+fn give(store: &mut [u64], h: Heading, u: Update) -> Heading
+    requires { ⌜ (storeSize ≤ length (now store)) × (h .followed ≤ 16) ⌝ }
+    ensures { λ r. ⌜ st r (now (store .exit)) ≡ giveS u (st h (now (store .entry))) ⌝ }
+{
+    if u.what == book::J_FOR_ALL {
+        return give_each(store, h, h.followed, u);
+    }
+    let followed = h.followed as u64;
+    if followed <= u.who {
+        return h;
+    }
+    give_to(store, h, u.who as usize, u)
 }
 
 // The entries of a message, in order.

@@ -4,7 +4,7 @@ use Prim.Native.Nat.{ℕ, _<_}
 use native.Mathlib.Omega.{arith}
 use Rattle.tags.specs.Slots.{slotOf}
 use Rattle.values.specs.Values.{Values, instrumentOf, byOf, momentIn, valuesOf}
-use Rattle.entries.specs.Entries.{bookEntry, emptyBook, entryInX, shownEntry, entryInW}
+use Rattle.entries.specs.Entries.{bookEntry, emptyAll, emptyBook, entryInX, shownEntry, entryInW}
 
 -- values that agree on the named tags
 module _ (v w : Values) (h : (t : ℕ) → slotOf t < 21 → v t ≡ w t) where
@@ -22,8 +22,8 @@ module _ (v w : Values) (h : (t : ℕ) → slotOf t < 21 → v t ≡ w t) where
   book-same depth side action = rw (h 290 (omega arith), instrument-same, values-same depth)
 
   empty-same : emptyBook v ≡ emptyBook w
-  unfolding emptyBook
-  empty-same = rw instrument-same
+  unfolding emptyBook emptyAll slotOf
+  empty-same = rw (h 48 (omega arith), h 22 (omega arith), h 207 (omega arith), instrument-same)
 
   shown-same : (depth id side : ℕ) → shownEntry depth id side v ≡ shownEntry depth id side w
   unfolding shownEntry slotOf

@@ -1,11 +1,12 @@
 -- What an entry says (document 01, "Fields", third paragraph). Values that an entry doesn't need are not read.
 use Prim.Native.Nat.{ℕ}
-use mathlib.Core.Bool.{cond}
+use mathlib.Core.Bool.{Bool, cond, _&&_}
 use mathlib.Core.Option.{Option, none, some}
 use lib.Dec.{leb, eqb}
+use lib.ListN.{length}
 use Rattle.book.specs.declared.Update.{Update}
 use Rattle.book.specs.Sides.{noEntry}
-use Rattle.values.specs.Values.{_>>=_, Values, instrumentAt, actionAt, sortAt, placeAt, valuesOf}
+use Rattle.values.specs.Values.{_>>=_, need, Values, instrumentAt, actionAt, sortAt, placeAt, valuesOf}
 use Rattle.entries.specs.declared.Said.{Said}
 
 -- An entry says one update, or it is passed over.
@@ -23,9 +24,21 @@ bookEntry depth side action v =
     cond (leb action 1) (valuesOf depth v) (some noEntry) >>= λ entry.
     says (record { who = id; what = side; action = action; place = place; entry = entry })
 
--- J needs 48 and 22.
+-- J: of one instrument, or for all.
+abbrev pub empties : ℕ → ℕ → Option (Option Update)
+empties who what = says (record { who = who; what = what; action = 0; place = 0; entry = noEntry })
+
+-- A tag is absent where its value has no bytes.
+abbrev pub absent : ℕ → Values → Bool
+absent t v = eqb (length (v t)) 0
+
+-- J without 48 is for all instruments (document 02, K4): 22 and 207 must then be absent.
+unfoldable pub emptyAll : Values → Option (Option Update)
+emptyAll v = need (absent 22 v && absent 207 v) (empties 0 3)
+
+-- J with 48 needs 22.
 unfoldable pub emptyBook : Values → Option (Option Update)
-emptyBook v = instrumentAt v >>= λ id. says (record { who = id; what = 2; action = 0; place = 0; entry = noEntry })
+emptyBook v = cond (absent 48 v) (emptyAll v) (instrumentAt v >>= λ id. empties id 2)
 
 -- An entry of an X: its 279 is checked whatever its 269.
 unfoldable pub entryInX : ℕ → Values → Option (Option Update)

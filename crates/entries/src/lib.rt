@@ -1,8 +1,11 @@
 // What an entry of a group says (document 01, "Fields", first and third paragraph). The values that it needs are read
 // from their marks; those that it doesn't need are not.
 ghost use mathlib.Core.Path.{_≡_};
-ghost use Rattle.tags.specs.Slots.{marked};
-ghost use Rattle.entries.specs.Entries.{bookEntry, emptyBook, entryInX, shownEntry, entryInW, said};
+ghost use Prim.Native.Nat.{_<_};
+ghost use lib.Dec.{eqb};
+ghost use lib.ListN.{length, getD};
+ghost use Rattle.tags.specs.Slots.{textAt, marked};
+ghost use Rattle.entries.specs.Entries.{bookEntry, emptyAll, emptyBook, entryInX, shownEntry, entryInW, said};
 use book::Update;
 use digits::Number;
 use tags::Marks;
@@ -47,10 +50,40 @@ fn book_entry(s: &[u8], depth: u64, side: u64, action: u64, m: Marks) -> Said
     })
 }
 
+// Whether the tag of slot k does not stand in the entry.
+fn absent(s: &[u8], m: Marks, k: usize) -> bool
+    requires { ⌜ k < 22 ⌝ }
+    ensures { λ r. ⌜ r ≡ eqb (length (textAt (now (s .entry)) (getD (m .from) k 0) (getD (m .to) k 0))) 0 ⌝ }
+{
+    tags::value(s, m, k).len() == 0
+}
+
+// J in X without 48: it is for all instruments, and neither 22 nor 207 may stand.
+fn empty_all(s: &[u8], m: Marks) -> Said
+    ensures { λ r. ⌜ r ≡ said (emptyAll (marked (now (s .entry)) m)) ⌝ }
+{
+    if !absent(s, m, tags::SOURCE) {
+        return Said::Bad;
+    }
+    if !absent(s, m, tags::MARKET) {
+        return Said::Bad;
+    }
+    Said::Is(Update {
+        who: 0,
+        what: book::J_FOR_ALL,
+        action: book::NEW,
+        place: 0,
+        entry: book::no_entry(),
+    })
+}
+
 // J in X.
 fn empty_book(s: &[u8], m: Marks) -> Said
     ensures { λ r. ⌜ r ≡ said (emptyBook (marked (now (s .entry)) m)) ⌝ }
 {
+    if absent(s, m, tags::INSTRUMENT) {
+        return empty_all(s, m);
+    }
     let Number::Is(id) = values::instrument(s, m) else {
         return Said::Bad;
     };

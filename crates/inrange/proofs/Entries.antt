@@ -1,6 +1,6 @@
 -- What an entry says lies in its ranges. Assumes nothing.
 use mathlib.Core.Path.{_≡_, refl}
-use mathlib.Core.Bool.{Bool, true, false, cond, _&&_}
+use mathlib.Core.Bool.{Bool, true, false, cond, _&&_, _||_}
 use mathlib.Core.List.{List, [], _∷_}
 use mathlib.Core.Option.{none, some}
 use Prim.Native.Nat.{ℕ, _+_, _*_}
@@ -24,9 +24,9 @@ use Rattle.orderid.proofs.Back.{read-sound}
 use Rattle.book.specs.declared.Entry.{Entry}
 use Rattle.book.specs.declared.Update.{Update}
 use Rattle.book.specs.Sides.{noEntry}
-use Rattle.board.specs.Ranges.{within, mostId, mostSize, mostOrders, idFine, priceFine, sizeFine, momentFine, ordersFine, byFine, entryFine, noneFine, updateFine, shownFine}
-use Rattle.values.specs.Values.{Values, number, wholeAt, actionAt, placeAt, sizeAt, heardAt, identified, bvmf, instrumentOf, instrumentAt, sortOf, sortAt, price, priceAt, By, orders, byOf, by, byAt, momentIn, momentAt, valuesOf}
-use Rattle.entries.specs.Entries.{bookEntry, emptyBook, entryInX, shownEntry, entryInW}
+use Rattle.board.specs.Ranges.{within, mostId, mostSize, mostOrders, idFine, priceFine, sizeFine, momentFine, ordersFine, byFine, entryFine, noneFine, updateFine, shownFine, saidFine}
+use Rattle.values.specs.Values.{_>>=_, need, Values, number, wholeAt, actionAt, placeAt, sizeAt, heardAt, identified, bvmf, instrumentOf, instrumentAt, sortOf, sortAt, price, priceAt, By, orders, byOf, by, byAt, momentIn, momentAt, valuesOf}
+use Rattle.entries.specs.Entries.{bookEntry, empties, absent, emptyAll, emptyBook, entryInX, shownEntry, entryInW}
 use Rattle.frame.specs.Frames.{equal}
 use Rattle.inrange.proofs.Okay.{okay, bind}
 
@@ -101,9 +101,6 @@ values-okay depth v =
     (λ m hm. rw (hp, hs, hm, hb)))))
 
 -- ---- entries
-abbrev pub changeFine : ℕ → Update → Bool
-changeFine depth u = idFine (u .who) && updateFine depth u
-
 none-fine : noneFine noEntry ≡ true
 unfolding noneFine
 none-fine = refl
@@ -123,13 +120,17 @@ sort-most v = go (v 269)
     go (b ∷ []) = pick (eqb b 48) (eqb b 49) (eqb b 74)
     go (b ∷ d ∷ bs) = refl
 
-book-okay : (depth side action : ℕ) (v : Values) → leb side 1 ≡ true → leb action 4 ≡ true → okay (okay (changeFine depth)) (bookEntry depth side action v) ≡ true
+or-true : (a : Bool) → a || true ≡ true
+or-true true = refl
+or-true false = refl
+
+book-okay : (depth side action : ℕ) (v : Values) → leb side 1 ≡ true → leb action 4 ≡ true → okay (okay (saidFine depth)) (bookEntry depth side action v) ≡ true
 unfolding bookEntry updateFine
 book-okay depth side action v hs ha =
-    bind (within 1 mostOrders) (okay (changeFine depth)) (placeAt v) _ (whole-okay 290 5 1 mostOrders v)
-    (λ place hp. bind idFine (okay (changeFine depth)) (instrumentAt v) _ (instrument-okay v)
-    (λ id hi. bind (fits (leb action 1)) (okay (changeFine depth)) (cond (leb action 1) (valuesOf depth v) (some noEntry)) _ (either (leb action 1))
-    (λ entry he. rw (hi, hs, ha, hp) he)))
+    bind (within 1 mostOrders) (okay (saidFine depth)) (placeAt v) _ (whole-okay 290 5 1 mostOrders v)
+    (λ place hp. bind idFine (okay (saidFine depth)) (instrumentAt v) _ (instrument-okay v)
+    (λ id hi. bind (fits (leb action 1)) (okay (saidFine depth)) (cond (leb action 1) (valuesOf depth v) (some noEntry)) _ (either (leb action 1))
+    (λ entry he. rw (hi, or-true (eqb side 3), hs, ha, hp) he)))
   where
     fits : Bool → Entry → Bool
     fits z e = cond z (entryFine depth e) (noneFine e)
@@ -138,20 +139,24 @@ book-okay depth side action v hs ha =
     either true = values-okay depth v
     either false = none-fine
 
-empty-okay : (depth : ℕ) (v : Values) → okay (okay (changeFine depth)) (emptyBook v) ≡ true
-unfolding emptyBook updateFine
-empty-okay depth v =
-    bind idFine (okay (changeFine depth)) (instrumentAt v) _ (instrument-okay v) (λ id hi. rw (hi, none-fine))
+empty-okay : (depth : ℕ) (v : Values) → okay (okay (saidFine depth)) (emptyBook v) ≡ true
+unfolding emptyBook emptyAll updateFine
+empty-okay depth v = go (absent 48 v) (absent 22 v && absent 207 v)
+  where
+    go : (a z : Bool) → okay (okay (saidFine depth)) (cond a (need z (empties 0 3)) (instrumentAt v >>= λ id. empties id 2)) ≡ true
+    go true true = none-fine
+    go true false = refl
+    go false z = bind idFine (okay (saidFine depth)) (instrumentAt v) _ (instrument-okay v) (λ id hi. rw (hi, none-fine))
 
-pub x-okay : (depth : ℕ) (v : Values) → okay (okay (changeFine depth)) (entryInX depth v) ≡ true
+pub x-okay : (depth : ℕ) (v : Values) → okay (okay (saidFine depth)) (entryInX depth v) ≡ true
 unfolding entryInX
 x-okay depth v =
-    bind (within 0 4) (okay (changeFine depth)) (actionAt v) _ (whole-okay 279 1 0 4 v)
-    (λ action ha. bind (within 0 3) (okay (changeFine depth)) (sortAt v) _ (sort-most v)
+    bind (within 0 4) (okay (saidFine depth)) (actionAt v) _ (whole-okay 279 1 0 4 v)
+    (λ action ha. bind (within 0 3) (okay (saidFine depth)) (sortAt v) _ (sort-most v)
     (λ sort hs. go action sort (both (leb 0 action) (leb action 4) ha .1) (leb sort 1) (eqb sort 2) refl))
   where
     go : (action sort : ℕ) → leb action 4 ≡ true → (z y : Bool) → leb sort 1 ≡ z
-        → okay (okay (changeFine depth)) (cond z (bookEntry depth sort action v) (cond y (emptyBook v) (some none))) ≡ true
+        → okay (okay (saidFine depth)) (cond z (bookEntry depth sort action v) (cond y (emptyBook v) (some none))) ≡ true
     go action sort h true y e = book-okay depth sort action v e h
     go action sort h false true e = empty-okay depth v
     go action sort h false false e = refl

@@ -11,7 +11,7 @@ use lib.ListN.{length}
 use Rattle.digits.proofs.Width.{both}
 use Rattle.book.specs.declared.Update.{Update}
 use Rattle.message.specs.Message.{Message, snapshot}
-use Rattle.board.specs.Ranges.{all, within, mostNumber, idFine, momentFine, headFine, shownFine, messageFine}
+use Rattle.board.specs.Ranges.{all, within, mostNumber, idFine, momentFine, headFine, shownFine, saidFine, messageFine}
 use Rattle.chain.specs.Fields.{Field}
 use Rattle.frame.specs.Frames.{frameOf, bodyOf}
 use Rattle.frame.specs.declared.Framed.{Framed}
@@ -24,7 +24,7 @@ use Rattle.lead.specs.Messages.{otherOf, changesOf, headOf, snapshotOf, orBadFi
 use Rattle.fields.specs.Messages.{framedAs, messageIn}
 use Rattle.inrange.specs.InRange.{ReadInRange}
 use Rattle.inrange.proofs.Okay.{okay, bind, needed, and-both}
-use Rattle.inrange.proofs.Entries.{whole-okay, heard-okay, instrument-okay, changeFine, x-okay, w-okay}
+use Rattle.inrange.proofs.Entries.{whole-okay, heard-okay, instrument-okay, x-okay, w-okay}
 
 -- ---- all entries
 each-fine : (q : Update → Bool) (f : Values → Option (Option Update)) → ((v : Values) → okay (okay q) (f v) ≡ true)
@@ -83,7 +83,7 @@ x-fine depth body =
     (λ _. bind (within 1 mostNumber) (messageFine depth) (seqAt v) _ (whole-okay 34 10 1 mostNumber v)
     (λ n hn. bind momentFine (messageFine depth) (heardAt v) _ (heard-okay v)
     (λ at ha. bind (λ es. leb (length es) 64) (messageFine depth) (groupOf 279 entryX body) _ (group-few 279 entryX body)
-    (λ es he. bind (fits (changeFine depth)) (messageFine depth) (each (entryInX depth) es) _ (each-fits (changeFine depth) (entryInX depth) (x-okay depth) es he)
+    (λ es he. bind (fits (saidFine depth)) (messageFine depth) (each (entryInX depth) es) _ (each-fits (saidFine depth) (entryInX depth) (x-okay depth) es he)
     (λ us hu. rw (hn, ha) hu)))))
 
 -- ---- W

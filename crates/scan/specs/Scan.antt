@@ -68,20 +68,24 @@ booksScan most full xs =
 
 -- ---- the queue
 
--- The 8 numbers from `at` on: what, action, place and the entry, which is needed of a new or a change of a bid or an offer alone.
+-- J of one instrument (2), or for all (3), which is of none: its who is 0.
+abbrev pub emptyScan : ℕ → ℕ → Bool
+emptyScan who what = eqb what 2 || (eqb what 3 && eqb who 0)
+
+-- The 9 numbers from `at` on: who, what, action, place and the entry, which is needed of a new or a change of a bid or an offer alone.
 unfoldable pub updateScan : ℕ → ℕ → List ℕ → ℕ → Bool
 updateScan most full xs at =
-    cond (leb (getD xs at 0) 1)
-    (leb (getD xs (at + 1) 0) 4
-    && (within 1 65535 (getD xs (at + 2) 0)
-    && cond (leb (getD xs (at + 1) 0) 1) (entryScan most full xs (at + 3)) (allZero xs (at + 3) 5)))
-    (eqb (getD xs at 0) 2 && eqb (getD xs (at + 1) 0) 0 && eqb (getD xs (at + 2) 0) 0 && allZero xs (at + 3) 5)
+    cond (leb (getD xs (at + 1) 0) 1)
+    (leb (getD xs (at + 2) 0) 4
+    && (within 1 65535 (getD xs (at + 3) 0)
+    && cond (leb (getD xs (at + 2) 0) 1) (entryScan most full xs (at + 4)) (allZero xs (at + 4) 5)))
+    (emptyScan (getD xs at 0) (getD xs (at + 1) 0) && eqb (getD xs (at + 2) 0) 0 && eqb (getD xs (at + 3) 0) 0 && allZero xs (at + 4) 5)
 
 -- A queued entry whose number lies in `low` to `high`, of one of n instruments, with its spare number.
 unfoldable pub slotScan : ℕ → ℕ → ℕ → ℕ → ℕ → List ℕ → ℕ → Bool
 slotScan low high n most full xs at =
     within low high (getD xs at 0)
-    && (ltb (getD xs (at + 1) 0) n && (updateScan most full xs (at + 2) && eqb (getD xs (at + 10) 0) 0))
+    && (ltb (getD xs (at + 1) 0) n && (updateScan most full xs (at + 1) && eqb (getD xs (at + 10) 0) 0))
 
 -- The least number that may stand in slot k: B+1, and then the number before it.
 unfoldable pub lowOf : List ℕ → ℕ → ℕ

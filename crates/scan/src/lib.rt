@@ -217,17 +217,19 @@ fn books(store: &[u64], most: u64, full: u64) -> bool
     )
 }
 
-// What, action, place and entry of a queued entry.
+// Who, what, action, place and entry of a queued entry.
 fn update(store: &[u64], at: usize, most: u64, full: u64) -> bool
-    requires { ⌜ at + 8 ≤ length (now store) ⌝ }
+    requires { ⌜ at + 9 ≤ length (now store) ⌝ }
     ensures { λ r. ⌜ r ≡ updateScan most full (now (store .entry)) at ⌝ }
 {
-    let what = store[at];
-    let action = store[at + 1];
-    let place = store[at + 2];
-    if 1 < what {
-        let none = sides::zero(store, at + 3, cells::ENTRY);
-        return (what == 2) & (action == 0) & (place == 0) & none;
+    let what = store[at + cells::UPDATE_WHAT];
+    let action = store[at + 2];
+    let place = store[at + 3];
+    if book::OFFER < what {
+        let who = store[at];
+        let named = (what == book::J) | ((what == book::J_FOR_ALL) & (who == 0));
+        let none = sides::zero(store, at + cells::UPDATE_ENTRY, cells::ENTRY);
+        return named & (action == 0) & (place == 0) & none;
     }
     if MOST_ACTION < action {
         return false;
@@ -236,9 +238,9 @@ fn update(store: &[u64], at: usize, most: u64, full: u64) -> bool
         return false;
     }
     if action <= 1 {
-        return sides::entry(store, at + 3, most, full);
+        return sides::entry(store, at + cells::UPDATE_ENTRY, most, full);
     }
-    sides::zero(store, at + 3, cells::ENTRY)
+    sides::zero(store, at + cells::UPDATE_ENTRY, cells::ENTRY)
 }
 
 // A queued entry, its number in `low` to `high`, of one of n instruments.
@@ -253,7 +255,7 @@ fn slot(store: &[u64], at: usize, low: u64, high: u64, n: u64, most: u64, full: 
     if n <= store[at + 1] {
         return false;
     }
-    if !update(store, at + 2, most, full) {
+    if !update(store, at + 1, most, full) {
         return false;
     }
     store[at + 10] == 0

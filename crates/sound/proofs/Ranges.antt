@@ -17,7 +17,7 @@ use Rattle.cells.specs.Cells.{entryAt, updateAt}
 use Rattle.board.specs.Ranges.{within, mostOrders, priceFine, momentFine, ordersFine, byFine, entryFine, noneFine, updateFine}
 use Rattle.board.proofs.Tested.{both}
 use Rattle.sides.specs.Side.{each, allZero, moreTo, entryScan}
-use Rattle.scan.specs.Scan.{mostOf, fullOf, updateScan}
+use Rattle.scan.specs.Scan.{mostOf, fullOf, emptyScan, updateScan}
 
 -- ---- Bools
 
@@ -108,21 +108,18 @@ none-test xs at =
     five (eqb (getD xs (at + 0) 0) 0) (eqb (getD xs (at + 1) 0) 0) (eqb (getD xs (at + 2) 0) 0) (eqb (getD xs (at + 3) 0) 0) (eqb (getD xs (at + 4) 0) 0)
     ∙ rw (add-zero, no-price (getD xs at 0))
 
--- ---- an update: what stands first is who
+-- ---- an update
 
 four : (a b c d : Bool) → a && b && c && d ≡ a && (b && (c && d))
 four true true c d = refl
 four true false c d = refl
 four false b c d = refl
 
-pub update-test : (depth : ℕ) (xs : List ℕ) (at : ℕ) → updateScan (mostOf depth) (fullOf depth) xs (at + 1) ≡ updateFine depth (updateAt xs at)
+pub update-test : (depth : ℕ) (xs : List ℕ) (at : ℕ) → updateScan (mostOf depth) (fullOf depth) xs at ≡ updateFine depth (updateAt xs at)
 unfolding updateScan updateFine
 update-test depth xs at =
     rw (
-      add-assoc at 1 1,
-      add-assoc at 1 2,
-      add-assoc at 1 3,
       entry-test depth xs (at + 4),
       none-test xs (at + 4),
-      four (eqb (getD xs (at + 1) 0) 2) (eqb (getD xs (at + 2) 0) 0) (eqb (getD xs (at + 3) 0) 0) (noneFine (entryAt xs (at + 4))),
+      four (emptyScan (getD xs at 0) (getD xs (at + 1) 0)) (eqb (getD xs (at + 2) 0) 0) (eqb (getD xs (at + 3) 0) 0) (noneFine (entryAt xs (at + 4))),
     )

@@ -94,10 +94,8 @@ module _ (xs : List ℕ) (i : ℕ) where
       and-true (facts-side depth room xs (bidsOf i) (room-small (getD xs atMarks 0) i) s)
       (facts-side depth room xs (bidsOf i + 128) (room-small (getD xs atMarks 0) i) (rw behind o))
 
-  update-at : updateScan (mostOf depth) (fullOf depth) xs (slotOf i + 2) ≡ updateFine depth (updateAt xs (slotOf i + 1))
-  update-at =
-      let e : slotOf i + 2 ≡ slotOf i + 1 + 1 = omega arith in
-      ap (updateScan (mostOf depth) (fullOf depth) xs) e ∙ update-test depth xs (slotOf i + 1)
+  update-at : updateScan (mostOf depth) (fullOf depth) xs (slotOf i + 1) ≡ updateFine depth (updateAt xs (slotOf i + 1))
+  update-at = update-test depth xs (slotOf i + 1)
 
   abbrev slot-test : Bool
   slot-test = slotScan (lowOf xs i) (getD xs atNumber 0) (getD xs atFollowed 0) (mostOf depth) (fullOf depth) xs (slotOf i)
@@ -105,7 +103,7 @@ module _ (xs : List ℕ) (i : ℕ) where
   slot-facts : slot-test ≡ true → SlotFacts xs i
   unfolding slotScan
   slot-facts e =
-      let p = four (within (lowOf xs i) (getD xs atNumber 0) (getD xs (slotOf i) 0)) (ltb (getD xs (slotOf i + 1) 0) (getD xs atFollowed 0)) (updateScan (mostOf depth) (fullOf depth) xs (slotOf i + 2)) (eqb (getD xs (slotOf i + 10) 0) 0) e in
+      let p = four (within (lowOf xs i) (getD xs atNumber 0) (getD xs (slotOf i) 0)) (ltb (getD xs (slotOf i + 1) 0) (getD xs atFollowed 0)) (updateScan (mostOf depth) (fullOf depth) xs (slotOf i + 1)) (eqb (getD xs (slotOf i + 10) 0) 0) e in
       let q = within-true (lowOf xs i) (getD xs atNumber 0) (getD xs (slotOf i) 0) (p .0) in
       record {
         low = q .0;

@@ -23,7 +23,7 @@ replay-kept i S [] b k = k
 replay-kept i S (q ∷ qs) b k =
     let t = bookStep b (q .update) in
     let a = kept-apply b k (q .update) in
-    by-test (λ (x : Turn). KeptBook (x .book)) (due i S (q .update .who) (q .number))
+    by-test (λ (x : Turn). KeptBook (x .book)) (due i S (q .update .who) (q .update .what) (q .number))
     (λ _. by-test (λ (x : Turn). KeptBook (x .book)) (eqb (t .reason) 0) (λ _. replay-kept i S qs (t .book) a) (λ _. a))
     (λ _. replay-kept i S qs b k)
 
@@ -41,7 +41,7 @@ pub replay-outcome : (i S : ℕ) (qs : List Queued) (b : Book) → KeptBook b �
 unfolding replayB run after
 replay-outcome i S [] b k = refl
 replay-outcome i S (q ∷ qs) b k =
-    go (due i S (q .update .who) (q .number)) (replay-outcome i S qs b k)
+    go (due i S (q .update .who) (q .update .what) (q .number)) (replay-outcome i S qs b k)
     (replay-outcome i S qs (bookStep b (q .update) .book) (kept-apply b k (q .update)))
   where
     go : (c : Bool) → outcomeOf (replayB i S qs b) ≡ run (after i S qs) (listsIn b)

@@ -15,16 +15,16 @@ use Rattle.taking.specs.Replays.{next, replayB}
 use Rattle.terms.specs.Terms.{due}
 
 module _ (i S : ℕ) (f : ℕ → Queued) (q k : ℕ) (b : Book) (h : k < q) where
-  pub passes : due i S (f k .update .who) (f k .number) ≡ false → replayB i S (drop (k + 1) (tab f q)) b ≡ replayB i S (drop k (tab f q)) b
+  pub passes : due i S (f k .update .who) (f k .update .what) (f k .number) ≡ false → replayB i S (drop (k + 1) (tab f q)) b ≡ replayB i S (drop k (tab f q)) b
   unfolding replayB
   passes e = sym (rw (tab-turn f q k h, e))
 
-  applies : due i S (f k .update .who) (f k .number) ≡ true
+  applies : due i S (f k .update .who) (f k .update .what) (f k .number) ≡ true
       → replayB i S (drop k (tab f q)) b ≡ next (bookStep b (f k .update)) (replayB i S (drop (k + 1) (tab f q)))
   unfolding replayB
   applies e = rw (tab-turn f q k h, e)
 
-  module _ (e : due i S (f k .update .who) (f k .number) ≡ true) (t : Turn) (w : t ≡ bookStep b (f k .update)) where
+  module _ (e : due i S (f k .update .who) (f k .update .what) (f k .number) ≡ true) (t : Turn) (w : t ≡ bookStep b (f k .update)) where
     pub goes-on : t .reason ≡ 0 → replayB i S (drop (k + 1) (tab f q)) (t .book) ≡ replayB i S (drop k (tab f q)) b
     goes-on z = sym (applies e ∙ ap (λ (x : Turn). next x (replayB i S (drop (k + 1) (tab f q)))) (sym w) ∙ rw (eq-eqb (t .reason) 0 z))
 

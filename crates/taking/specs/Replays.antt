@@ -27,7 +27,7 @@ next t f = cond (eqb (t .reason) 0) (f (t .book)) t
 -- The queue on a book, up to the first breach.
 unfoldable pub replayB : ℕ → ℕ → List Queued → Book → Turn
 replayB i S [] b = record { book = b; reason = 0 }
-replayB i S (q ∷ qs) b = cond (due i S (q .update .who) (q .number)) (next (bookStep b (q .update)) (replayB i S qs)) (replayB i S qs b)
+replayB i S (q ∷ qs) b = cond (due i S (q .update .who) (q .update .what) (q .number)) (next (bookStep b (q .update)) (replayB i S qs)) (replayB i S qs b)
 
 -- Instrument i is Live with a book, reason 0.
 abbrev pub liveS : ℕ → Book → State → State

@@ -1,5 +1,5 @@
 // A snapshot, in place on the store (document 01, "Numbers, queue and marks"): refused before anything is written, or its
-// book is set, queued entries for the instrument with numbers above S are applied, and it is Live.
+// book is set, queued entries for the instrument and for all with numbers above S are applied, and it is Live.
 use book::Book;
 use book::Side;
 use book::Turn;
@@ -36,11 +36,13 @@ fn replay(store: &[u64], q: usize, i: usize, last: u64, book: Book) -> Turn
         let at = store::QUEUE + k * store::SLOT;
         k += 1;
         let n = store[at];
-        let who = store[at + 1];
-        if !terms::is_due(i, last, who, n) {
+        let says = at + 1;
+        let who = store[says];
+        let what = store[says + cells::UPDATE_WHAT];
+        if !terms::is_due(i, last, who, what, n) {
             continue;
         }
-        let u = cells::load_update(store, at + 1);
+        let u = cells::load_update(store, says);
         let t = book::apply(b, u);
         if t.reason != 0 {
             return t;

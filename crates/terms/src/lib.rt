@@ -34,10 +34,10 @@ pub fn refusal(h: Heading, i: usize, last: u64) -> u64
     0
 }
 
-// Whether a queued entry for `who` of message n is one for instrument i with a number above `last`.
-pub fn is_due(i: usize, last: u64, who: u64, n: u64) -> bool
-    ensures { λ r. ⌜ r ≡ due i last who n ⌝ }
+// Whether a queued entry for `who` of message n is one for instrument i, or for all, with a number above `last`.
+pub fn is_due(i: usize, last: u64, who: u64, what: u64, n: u64) -> bool
+    ensures { λ r. ⌜ r ≡ due i last who what n ⌝ }
 {
     let me = i as u64;
-    (who == me) & (last < n)
+    ((what == book::J_FOR_ALL) | (who == me)) & (last < n)
 }

@@ -27,8 +27,17 @@ mul-id c = search needs
 slice-read-id : tie.Need-slice-read-id Inv-loop μ-loop
 slice-read-id c = omega (arith, c .before .before .loop .inv .1 .size)
 
-find-requires : tie.Need-find-requires Inv-loop μ-loop
-find-requires c κs = search needs
+add-what : tie.Need-add-what Inv-loop μ-loop
+add-what c = search needs
+
+mul-what : tie.Need-mul-what Inv-loop μ-loop
+mul-what c = search needs
+
+slice-read-what : tie.Need-slice-read-what Inv-loop μ-loop
+slice-read-what c = omega (arith, c .before .before .before .loop .inv .1 .size)
+
+index-requires : tie.Need-index-requires Inv-loop μ-loop
+index-requires c κs = search needs
 
 mul-run : tie.Need-mul-run Inv-loop μ-loop
 mul-run c = search needs
@@ -44,8 +53,8 @@ loop-less c = search needs
 
 loop-again : tie.Need-loop-again Inv-loop μ-loop
 loop-again c =
-    let l = c .before .before .before .loop in
-    (omega arith, aims-more _ _ _ _ _ (l .inv .1) (omega arith) (c .find .ensures .0))
+    let l = c .before .before .before .before .loop in
+    (omega arith, aims-more _ _ _ _ _ (l .inv .1) (omega arith) (c .index .ensures))
 
 same-length : tie.Need-same-length Inv-loop μ-loop
 same-length c = search needs
@@ -66,7 +75,10 @@ aim-spec =
     mul-at
     mul-id
     slice-read-id
-    find-requires
+    add-what
+    mul-what
+    slice-read-what
+    index-requires
     mul-run
     slice-write-run
     add-i

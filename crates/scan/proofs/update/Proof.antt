@@ -8,6 +8,9 @@ use borrow.Author.Needs.{needs}
 use Rattle.scan.proofs.update.Statement.{statement}
 use Rattle.scan.proofs.update.Tie as tie
 
+add-what : tie.Need-add-what
+add-what c = search needs
+
 mul-what : tie.Need-mul-what
 mul-what c = search needs
 
@@ -32,6 +35,12 @@ mul-place c = search needs
 shared-slice-read-place : tie.Need-shared-slice-read-place
 shared-slice-read-place c = search needs
 
+mul-who : tie.Need-mul-who
+mul-who c = search needs
+
+shared-slice-read-who : tie.Need-shared-slice-read-who
+shared-slice-read-who c = search needs
+
 add-zero : tie.Need-add-zero
 add-zero c = search needs
 
@@ -40,7 +49,7 @@ zero-requires c κs = search needs
 
 returns : tie.Need-returns
 unfolding updateScan
-returns c = rw (c .zero .ensures, lt-leb _ _ (c .before .if1 .taken))
+returns c = rw (c .zero .ensures, lt-leb _ _ (c .before .before .if1 .taken))
 
 returns-2 : tie.Need-returns-2
 unfolding updateScan
@@ -51,7 +60,7 @@ unfolding updateScan
 returns-3 c =
     let a = c .before .before .before .before .before .before .before .args in
     chosen _ (le-leb _ _ (c .before .before .if1 .left))
-    (past (le-leb _ _ (c .before .if2 .left)) (stops _ (out-of 1 65535 (getD (a .store .now) (a .at + 2) 0) (c .if3 .taken))))
+    (past (le-leb _ _ (c .before .if2 .left)) (stops _ (out-of 1 65535 (getD (a .store .now) (a .at + 3) 0) (c .if3 .taken))))
 
 add-entry : tie.Need-add-entry
 add-entry c = search needs
@@ -65,7 +74,7 @@ returns-4 c =
     let a = c .before .before .before .before .before .before .before .before .before .args in
     chosen _ (le-leb _ _ (c .before .before .before .before .if1 .left))
     (past (le-leb _ _ (c .before .before .before .if2 .left))
-    (past (inside 1 65535 (getD (a .store .now) (a .at + 2) 0) (c .before .before .if3 .left))
+    (past (inside 1 65535 (getD (a .store .now) (a .at + 3) 0) (c .before .before .if3 .left))
     (chosen _ (le-leb _ _ (c .before .if4 .taken)) (c .entry .ensures))))
 
 add-zero-2 : tie.Need-add-zero-2
@@ -80,13 +89,14 @@ returns-5 c =
     let a = c .before .before .before .before .before .before .before .before .before .args in
     chosen _ (le-leb _ _ (c .before .before .before .before .if1 .left))
     (past (le-leb _ _ (c .before .before .before .if2 .left))
-    (past (inside 1 65535 (getD (a .store .now) (a .at + 2) 0) (c .before .before .if3 .left))
+    (past (inside 1 65535 (getD (a .store .now) (a .at + 3) 0) (c .before .before .if3 .left))
     (other _ (lt-leb _ _ (c .before .if4 .left)) (c .zero2 .ensures))))
 
 pub update-spec : {M : Type 1} → statement M
 update-spec =
     tie.close
     (tie.spec
+    add-what
     mul-what
     shared-slice-read-what
     add-action
@@ -95,6 +105,8 @@ update-spec =
     add-place
     mul-place
     shared-slice-read-place
+    mul-who
+    shared-slice-read-who
     add-zero
     zero-requires
     returns

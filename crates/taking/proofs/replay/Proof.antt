@@ -40,14 +40,23 @@ mul-n c = search needs
 shared-slice-read-n : tie.Need-shared-slice-read-n Inv-loop μ-loop
 shared-slice-read-n c = search needs
 
-add-who : tie.Need-add-who Inv-loop μ-loop
-add-who c = search needs
+add-says : tie.Need-add-says Inv-loop μ-loop
+add-says c = search needs
 
 mul-who : tie.Need-mul-who Inv-loop μ-loop
 mul-who c = search needs
 
 shared-slice-read-who : tie.Need-shared-slice-read-who Inv-loop μ-loop
 shared-slice-read-who c = search needs
+
+add-what : tie.Need-add-what Inv-loop μ-loop
+add-what c = search needs
+
+mul-what : tie.Need-mul-what Inv-loop μ-loop
+mul-what c = search needs
+
+shared-slice-read-what : tie.Need-shared-slice-read-what Inv-loop μ-loop
+shared-slice-read-what c = search needs
 
 is-due-requires : tie.Need-is-due-requires Inv-loop μ-loop
 is-due-requires c κs = search needs
@@ -58,14 +67,11 @@ loop-less c = search needs
 loop-again : tie.Need-loop-again Inv-loop μ-loop
 unfolding queuedAt
 loop-again c =
-    let l = c .before .before .before .before .before .loop in
-    let a = c .before .before .before .before .before .before .before .args in
+    let l = c .before .before .before .before .before .before .loop in
+    let a = c .before .before .before .before .before .before .before .before .args in
     let f = queuedAt (a .store .now) in
-    let e : due (a .i) (a .last) (f (l .k) .update .who) (f (l .k) .number) ≡ false = sym (c .before .is-due .ensures) ∙ not-true _ (c .if1 .taken) in
+    let e : due (a .i) (a .last) (f (l .k) .update .who) (f (l .k) .update .what) (f (l .k) .number) ≡ false = sym (c .before .is-due .ensures) ∙ not-true _ (c .if1 .taken) in
     (omega arith, passes (a .i) (a .last) f (a .q) (l .k) (l .b) (omega arith) e ∙ l .inv .1)
-
-add-load-update : tie.Need-add-load-update Inv-loop μ-loop
-add-load-update c = search needs
 
 load-update-requires : tie.Need-load-update-requires Inv-loop μ-loop
 load-update-requires c κs = search needs
@@ -76,11 +82,11 @@ apply-requires c κs = search needs
 returns : tie.Need-returns Inv-loop μ-loop
 unfolding queuedAt
 returns c =
-    let l = c .before .before .before .before .before .before .before .before .before .loop in
-    let a = c .before .before .before .before .before .before .before .before .before .before .before .args in
+    let l = c .before .before .before .before .before .before .before .before .before .before .loop in
+    let a = c .before .before .before .before .before .before .before .before .before .before .before .before .args in
     let f = queuedAt (a .store .now) in
     let o = c .before .before .apply in
-    let e : due (a .i) (a .last) (f (l .k) .update .who) (f (l .k) .number) ≡ true = sym (c .before .before .before .before .before .is-due .ensures) ∙ not-false _ (c .before .before .before .before .if1 .left) in
+    let e : due (a .i) (a .last) (f (l .k) .update .who) (f (l .k) .update .what) (f (l .k) .number) ≡ true = sym (c .before .before .before .before .before .is-due .ensures) ∙ not-false _ (c .before .before .before .before .if1 .left) in
     let w : o .result ≡ bookStep (l .b) (f (l .k) .update) = o .ensures ∙ ap (bookStep (l .b)) (c .before .before .before .load-update .ensures) in
     stops (a .i) (a .last) f (a .q) (l .k) (l .b) (omega arith) e (o .result) w (c .if2 .taken) ∙ l .inv .1
 
@@ -90,11 +96,11 @@ loop-less-2 c = search needs
 loop-again-2 : tie.Need-loop-again-2 Inv-loop μ-loop
 unfolding queuedAt
 loop-again-2 c =
-    let l = c .before .before .before .before .before .before .before .before .before .before .loop in
-    let a = c .before .before .before .before .before .before .before .before .before .before .before .before .args in
+    let l = c .before .before .before .before .before .before .before .before .before .before .before .loop in
+    let a = c .before .before .before .before .before .before .before .before .before .before .before .before .before .args in
     let f = queuedAt (a .store .now) in
     let o = c .before .before .before .apply in
-    let e : due (a .i) (a .last) (f (l .k) .update .who) (f (l .k) .number) ≡ true = sym (c .before .before .before .before .before .before .is-due .ensures) ∙ not-false _ (c .before .before .before .before .before .if1 .left) in
+    let e : due (a .i) (a .last) (f (l .k) .update .who) (f (l .k) .update .what) (f (l .k) .number) ≡ true = sym (c .before .before .before .before .before .before .is-due .ensures) ∙ not-false _ (c .before .before .before .before .before .if1 .left) in
     let w : o .result ≡ bookStep (l .b) (f (l .k) .update) = o .ensures ∙ ap (bookStep (l .b)) (c .before .before .before .before .load-update .ensures) in
     (omega arith, goes-on (a .i) (a .last) f (a .q) (l .k) (l .b) (omega arith) e (o .result) w (c .before .if2 .left) ∙ l .inv .1)
 
@@ -117,13 +123,15 @@ replay-spec =
     add-k
     mul-n
     shared-slice-read-n
-    add-who
+    add-says
     mul-who
     shared-slice-read-who
+    add-what
+    mul-what
+    shared-slice-read-what
     is-due-requires
     loop-less
     loop-again
-    add-load-update
     load-update-requires
     apply-requires
     returns
