@@ -53,11 +53,31 @@ pub enum Step {
     Empty,
 }
 
-/// A bid, offer or J entry for one instrument.
+/// A bid, offer or J entry that is read.
 #[derive(Clone, PartialEq, Eq, Debug)]
-pub struct Entry {
-    pub id: u64,
-    pub step: Step,
+pub enum Entry {
+    /// For one instrument.
+    One { id: u64, step: Step },
+    /// J without 48: every book is emptied (02, K4).
+    EmptyAll,
+}
+
+impl Entry {
+    /// Whether it speaks of an instrument.
+    pub fn concerns(&self, id: u64) -> bool {
+        match self {
+            Entry::One { id: one, .. } => *one == id,
+            Entry::EmptyAll => true,
+        }
+    }
+
+    /// What it does to a book that it speaks of.
+    pub fn step(&self) -> &Step {
+        match self {
+            Entry::One { step, .. } => step,
+            Entry::EmptyAll => &Step::Empty,
+        }
+    }
 }
 
 /// Why an instrument breaks: reason 1 (place) or 2 (no room).

@@ -110,7 +110,7 @@ impl Channel {
     /// Gap: all Waiting with empty books, reasons kept, queue emptied, B the number less one.
     fn clear_at_gap(&mut self, message: &Counted) {
         for instrument in &mut self.instruments {
-            let named = message.entries.iter().any(|entry| entry.id == instrument.id);
+            let named = message.entries.iter().any(|entry| entry.concerns(instrument.id));
             if either(Flip::GapClearsNamedOnly, true, named) {
                 instrument.clear_at_gap();
             }
@@ -131,17 +131,18 @@ impl Channel {
         let_go
     }
 
-    /// If any is Waiting, entries for followed instruments join the queue; if that would make
-    /// more than 256, the queue is emptied and B becomes H.
+    /// If any is Waiting, entries for followed instruments join the queue, and so do those for
+    /// all; if that would make more than 256, the queue is emptied and B becomes H.
     fn join_queue(&mut self, message: &Counted) -> bool {
-        let joining: Vec<Queued> = message
-            .entries
-            .iter()
-            .filter(|entry| self.joins(entry))
-            .map(|entry| Queued { number: message.number, entry: entry.clone() })
+        let entries = in_turn(&message.entries, Flip::AllQueuedFirst, Flip::AllQueuedLast);
+        let joining: Vec<Queued> = entries
+            .into_iter()
+            .filter(|entry| self.joins(entry, message))
+            .flat_map(|entry| self.as_queued(entry))
+            .map(|entry| Queued { number: message.number, entry })
             .collect();
         let most = either(Flip::Queue257, either(Flip::Queue255, QUEUE_ROOM, 255), 257);
-        let counted = either(Flip::QueueUnfollowed, joining.len(), message.entries.len());
+        let counted = either(Flip::QueueUnfollowed, self.counted(&joining), message.entries.len());
         let let_go = self.queue.len() + counted > most;
         if let_go {
             self.queue.clear();
@@ -154,23 +155,56 @@ impl Channel {
         let_go
     }
 
-    /// Bid, offer and J entries for followed instruments join, Live ones' too.
-    fn joins(&self, entry: &Entry) -> bool {
-        let Some(instrument) = self.find(entry.id) else { return false };
+    /// Bid, offer and J entries for followed instruments join, Live ones' too, and J for all
+    /// whatever else its message holds.
+    fn joins(&self, entry: &Entry, message: &Counted) -> bool {
+        let Entry::One { id, step } = entry else {
+            let of_followed =
+                |entry: &Entry| matches!(entry, Entry::One { id, .. } if self.find(*id).is_some());
+            let beside = message.entries.iter().any(of_followed);
+            return either(Flip::AllQueuedBeside, !on(Flip::AllNotQueued), beside);
+        };
+        let Some(instrument) = self.find(*id) else { return false };
         let any_mark = either(Flip::QueueWaitingOnly, true, instrument.waiting);
-        let any_kind = either(Flip::JNotQueued, true, entry.step != Step::Empty);
+        let any_kind = either(Flip::JNotQueued, true, *step != Step::Empty);
         any_mark && any_kind
+    }
+
+    /// What stands in the queue for an entry that joins it: the entry, one for all too.
+    fn as_queued(&self, entry: &Entry) -> Vec<Entry> {
+        if *entry == Entry::EmptyAll && on(Flip::AllQueuedEach) {
+            return self.instruments.iter().map(|it| Entry::One { id: it.id, step: Step::Empty }).collect();
+        }
+        vec![entry.clone()]
+    }
+
+    /// How many count against 256: each that joins, and one for all once.
+    fn counted(&self, joining: &[Queued]) -> usize {
+        let for_all = joining.iter().filter(|queued| queued.entry == Entry::EmptyAll).count();
+        let each = joining.len() + for_all * (self.instruments.len() - 1);
+        let counted = either(Flip::AllCountsEach, joining.len(), each);
+        either(Flip::AllCountsNone, counted, counted - for_all.min(1))
     }
 
     /// Live instruments get their entries in order; the other entries of one that breaks are
     /// passed over. Says whether one breaks.
     fn give_to_live(&mut self, message: &Counted) -> bool {
         let before: Vec<u64> = self.instruments.iter().filter(|i| !i.waiting).map(|i| i.id).collect();
-        let mut broke = false;
-        for entry in &message.entries {
-            let Some(instrument) = self.find_mut(entry.id) else { continue };
-            if either(Flip::BreakGoesOn, !instrument.waiting, before.contains(&entry.id)) {
-                if let Err(breach) = instrument.book.take(&entry.step) {
+        let waited = before.len() < self.instruments.len();
+        let (mut broke, mut emptied) = (false, false);
+        for entry in in_turn(&message.entries, Flip::AllGivenFirst, Flip::AllGivenLast) {
+            let Entry::One { id, step } = entry else {
+                let passed = (waited && on(Flip::AllLeftToQueue)) || (emptied && on(Flip::AllSecondPassed));
+                if !passed {
+                    self.empty_live(message, &before);
+                }
+                emptied = true;
+                continue;
+            };
+            let Some(instrument) = self.find_mut(*id) else { continue };
+            let passed = emptied && on(Flip::AllEndsMessage);
+            if either(Flip::BreakGoesOn, !instrument.waiting, before.contains(id)) && !passed {
+                if let Err(breach) = instrument.book.take(step) {
                     instrument.break_off(breach);
                     broke = true;
                 }
@@ -180,6 +214,42 @@ impl Channel {
             self.drop_loop_if(Flip::LoopBreakDrops);
         }
         broke
+    }
+
+    /// J for all empties the book of every instrument that is Live at that point of the message;
+    /// no mark, reason or B changes by it. `before` are those that were Live before the message.
+    fn empty_live(&mut self, message: &Counted, before: &[u64]) {
+        let is_named =
+            |id: u64| message.entries.iter().any(|it| matches!(it, Entry::One { id: one, .. } if *one == id));
+        for (i, instrument) in self.instruments.iter_mut().enumerate() {
+            instrument.reason = either(Flip::AllClearsReasons, instrument.reason, 0);
+            if instrument.waiting {
+                let broken = before.contains(&instrument.id);
+                let revived = on(Flip::AllMakesLive) || (broken && on(Flip::AllRevivesBroken));
+                instrument.waiting = !revived;
+                continue;
+            }
+            let named = is_named(instrument.id);
+            let passed = (i > 0 && on(Flip::AllFirstOnly))
+                || (!named && on(Flip::AllNamedOnly))
+                || (named && on(Flip::AllUnnamedOnly));
+            if passed {
+                continue;
+            }
+            instrument.book.bids.clear();
+            if !on(Flip::AllOneSide) {
+                instrument.book.offers.clear();
+            }
+            instrument.waiting = on(Flip::AllMarksWaiting);
+            instrument.reason = either(Flip::AllTellsReason, instrument.reason, 1);
+        }
+        if on(Flip::AllLetsGo) {
+            self.queue.clear();
+        }
+        if on(Flip::AllLetsGo) || on(Flip::AllMovesB) {
+            self.b = self.h;
+        }
+        self.drop_loop_if(Flip::LoopForAllDrops);
     }
 
     /// Whenever none waits at the end of a call, and whenever none waited before a message in
@@ -231,13 +301,38 @@ impl Channel {
         let id = snapshot.id;
         let replay = self.queued_from(first, id);
         self.heard = either(Flip::SnapshotHeard, self.heard, Some(snapshot.time));
+        if on(Flip::AllReplayedOnce) {
+            self.queue.retain(|queued| queued.entry != Entry::EmptyAll);
+        }
         let instrument = self.find_mut(id).expect("followed");
         instrument.set_and_replay(snapshot.book, &replay)
     }
 
-    /// The queued entries for an instrument with numbers from `first` on.
+    /// The queued entries that speak of an instrument with numbers from `first` on.
     pub(crate) fn queued_from(&self, first: u64, id: u64) -> Vec<Entry> {
-        let after = self.queue.iter().filter(|queued| queued.number >= first && queued.entry.id == id);
+        let reached = |queued: &&Queued| match queued.entry {
+            Entry::One { .. } => queued.number >= first,
+            Entry::EmptyAll => self.meets_all(queued.number, first, id),
+        };
+        let after = self.queue.iter().filter(reached).filter(|queued| queued.entry.concerns(id));
         after.map(|queued| queued.entry.clone()).collect()
     }
+
+    /// Whether the replay of an instrument from `first` on meets a J for all with this number:
+    /// every instrument's does, if the number lies there.
+    fn meets_all(&self, number: u64, first: u64, id: u64) -> bool {
+        let reached = number + either(Flip::AllReplayedAtS, 0, 1) >= first || on(Flip::AllReplayedAlways);
+        let of_first = self.instruments[0].id == id;
+        reached && either(Flip::AllReplayedFirst, !on(Flip::AllNotReplayed), of_first)
+    }
+}
+
+/// The entries in the order written, but for flips that put those for all first or last.
+fn in_turn(entries: &[Entry], all_first: Flip, all_last: Flip) -> Vec<&Entry> {
+    let mut ordered: Vec<&Entry> = entries.iter().collect();
+    ordered.sort_by_key(|entry| {
+        let for_all = **entry == Entry::EmptyAll;
+        (!for_all && on(all_first)) || (for_all && on(all_last))
+    });
+    ordered
 }

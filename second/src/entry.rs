@@ -113,7 +113,13 @@ pub fn incremental(fields: &[Field], depth: Depth) -> Option<Option<Entry>> {
         }
         return either(Flip::OtherActionFree, action.is_some(), true).then_some(None);
     }
-    let id = instrument(fields)?;
+    if value(fields, 48).is_none() {
+        return without_48(fields, kind, action);
+    }
+    let id = match kind {
+        b"J" => instrument_of_j(fields)?,
+        _ => instrument(fields)?,
+    };
     if on(Flip::JNeedsPosition) {
         position(fields)?;
     }
@@ -121,7 +127,32 @@ pub fn incremental(fields: &[Field], depth: Depth) -> Option<Option<Entry>> {
         Some(name) => Step::Act(name, act(fields, action?, depth)?),
         None => action.map(|_| Step::Empty)?,
     };
-    Some(Some(Entry { id, step }))
+    Some(Some(Entry::One { id, step }))
+}
+
+/// The instrument of a J with 48: as any entry's.
+fn instrument_of_j(fields: &[Field]) -> Option<u64> {
+    if on(Flip::JWithout22) && value(fields, 22).is_none() {
+        return field::security(value(fields, 48)?);
+    }
+    instrument(fields).filter(|_| either(Flip::JRefuses207, true, value(fields, 207).is_none()))
+}
+
+/// A bid or an offer needs 48. A J without 48 speaks of all instruments (02, K4): its 279 is checked
+/// as every J's, and 22 and 207 must be absent, whatever their values.
+fn without_48(fields: &[Field], kind: &[u8], action: Option<u64>) -> Option<Option<Entry>> {
+    if kind != b"J" {
+        return (action.is_some() && on(Flip::SideWithout48Passed)).then_some(None);
+    }
+    let (source, exchange) = (value(fields, 22), value(fields, 207));
+    let source_free = on(Flip::AllSourceStands) || (source == Some(b"8") && on(Flip::AllSource8Stands));
+    let exchange_free = on(Flip::AllExchangeStands) || (exchange == Some(b"BVMF") && on(Flip::AllBvmfStands));
+    let (source_good, exchange_good) = (source.is_none() || source_free, exchange.is_none() || exchange_free);
+    let alone = either(Flip::AllOneStands, source_good && exchange_good, source_good || exchange_good);
+    let checked = either(Flip::AllActionFree, action.is_some(), true);
+    let placed = either(Flip::AllNeedsPosition, true, position(fields).is_some());
+    let read = either(Flip::AllPassedOver, Some(Entry::EmptyAll), None);
+    (alone && checked && placed && !on(Flip::AllRefused)).then_some(read)
 }
 
 /// 279: 0 new, 1 change, 2 delete, 3 delete thru, 4 delete from.

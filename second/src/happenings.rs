@@ -397,7 +397,7 @@ fn count_unnamed(
     waited: &[(&Instrument, &Instrument)],
     counts: &mut Happenings,
 ) {
-    let replays = |id: u64| before.queue.iter().any(|it| it.entry.id == id && it.number > lowest);
+    let replays = |id: u64| before.queue.iter().any(|it| it.entry.concerns(id) && it.number > lowest);
     for (was, is) in waited {
         match (is.waiting, is.reason) {
             (false, _) if replays(was.id) => counts.count(Happening::Replay),

@@ -41,7 +41,7 @@ impl Instrument {
         self.waiting = false;
         self.reason = either(Flip::ReasonKept, 0, old_reason);
         for entry in replay {
-            match self.book.take(&entry.step) {
+            match self.book.take(entry.step()) {
                 Err(breach) if !on(Flip::ReplayGoesOn) => {
                     self.break_off(breach);
                     self.reason = either(Flip::ReplayOldReason, self.reason, old_reason);

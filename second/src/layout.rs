@@ -40,6 +40,11 @@ pub const SIDE: usize = 1 + ROOM * PLACE;
 /// Numbers of a queue entry that are used: message, instrument, what, action, place, and a place.
 pub const SLOT: usize = 5 + PLACE;
 
+/// What a queue entry is, beside 0 (bid) and 1 (offer): J of one instrument, or J for all, whose
+/// instrument is then 0.
+pub const J_OF_ONE: u64 = 2;
+pub const J_FOR_ALL: u64 = 3;
+
 /// Where the record of instrument `i` stands: SecurityID, reason.
 pub fn record(i: usize) -> usize {
     32 + i * 8
@@ -151,15 +156,19 @@ fn moment_word(date: Date, time: TimeOfDay) -> u64 {
 }
 
 fn queued_words(channel: &Channel, queued: &Queued) -> [u64; SLOT] {
-    let is = |instrument: &Instrument| instrument.id == queued.entry.id;
-    let who = channel.instruments.iter().position(is).expect("followed") as u64;
-    let (what, action, position, place) = match &queued.entry.step {
-        Step::Act(name, action) => {
+    let who = match queued.entry {
+        Entry::One { id, .. } => channel.instruments.iter().position(|it| it.id == id).expect("followed"),
+        Entry::EmptyAll => 0,
+    };
+    let (what, action, position, place) = match &queued.entry {
+        Entry::One { step: Step::Act(name, action), .. } => {
             let (number, position, place) = action_words(action);
             (*name as u64, number, position, place)
         }
-        Step::Empty => (2, 0, 0, [0; PLACE]),
+        Entry::One { step: Step::Empty, .. } => (J_OF_ONE, 0, 0, [0; PLACE]),
+        Entry::EmptyAll => (J_FOR_ALL, 0, 0, [0; PLACE]),
     };
+    let who = who as u64;
     let mut words = [queued.number, who, what, action, position, 0, 0, 0, 0, 0];
     words[5..].copy_from_slice(&place);
     words
@@ -191,6 +200,12 @@ fn pass_flipped(words: &mut [u64], store: &[u64]) {
     for (flip, older) in taken.into_iter().zip(OLDER_LAYOUTS) {
         if on(flip) && store[AT_LAYOUT] == older {
             words[AT_LAYOUT] = older;
+        }
+    }
+    for at in (0..QUEUE_ROOM).map(slot) {
+        if words[at + 2] == J_FOR_ALL {
+            words[at + 1] = either(Flip::UnsoundForAllIndex, 0, store[at + 1]);
+            words[at + 2] = either(Flip::UnsoundWhat4, J_FOR_ALL, store[at + 2]);
         }
     }
     if on(Flip::UnsoundLoopNamed) || on(Flip::UnsoundRepeats) {
@@ -347,13 +362,17 @@ fn read_queue(store: &[u64], depth: Depth, instruments: &[Instrument]) -> Option
 
 fn read_queued(words: &[u64], depth: Depth, instruments: &[Instrument]) -> Option<Queued> {
     let instrument = instruments.get(usize::try_from(words[1]).ok()?)?;
-    let step = match words[2] {
-        0 => Step::Act(SideName::Bid, read_action(words, depth)?),
-        1 => Step::Act(SideName::Offer, read_action(words, depth)?),
-        2 => Step::Empty,
+    let of_one = |step| Entry::One { id: instrument.id, step };
+    let entry = match words[2] {
+        0 => of_one(Step::Act(SideName::Bid, read_action(words, depth)?)),
+        1 => of_one(Step::Act(SideName::Offer, read_action(words, depth)?)),
+        J_OF_ONE => of_one(Step::Empty),
+        J_FOR_ALL if on(Flip::UnsoundForAll) => return None,
+        J_FOR_ALL if words[1] == 0 || on(Flip::UnsoundForAllIndex) => Entry::EmptyAll,
+        4 if on(Flip::UnsoundWhat4) => Entry::EmptyAll,
         _ => return None,
     };
-    Some(Queued { number: words[0], entry: Entry { id: instrument.id, step } })
+    Some(Queued { number: words[0], entry })
 }
 
 /// 279 is 0 to 4, 290 is 1 to 65,535.

@@ -234,7 +234,9 @@ impl Channel {
             return Vec::new();
         }
         let first = either(Flip::LoopReplayAtS, last + 1, last);
-        self.queued_from(first, id)
+        let mut replay = self.queued_from(first, id);
+        replay.retain(|entry| !(*entry == Entry::EmptyAll && on(Flip::LoopForAllLeftOut)));
+        replay
     }
 }
 
