@@ -1,6 +1,6 @@
 //! The making of calls: a seed gives a script that leads a store through true streams, losses,
-//! bursts, snapshots of every kind, loops of them whole and broken, bounds of every field, harm,
-//! questions good and bad, the longest writings, books aimed at the bounds of a lot's sum, and
+//! bursts, J for all, snapshots of every kind, loops of them whole and broken, bounds of every field,
+//! harm, questions good and bad, the longest writings, books aimed at the bounds of a lot's sum, and
 //! recordings to walk.
 
 mod asks;
@@ -15,6 +15,7 @@ mod harm;
 mod loops;
 mod lots;
 mod night;
+mod resets;
 mod rng;
 mod scramble;
 mod snapshots;
@@ -23,6 +24,7 @@ mod stream;
 mod values;
 mod walks;
 
+use crate::book::Entry;
 use crate::channel::Channel;
 use crate::keeper::{Keeper, STORE_NUMBERS};
 use crate::layout;
@@ -42,6 +44,7 @@ enum Step {
     Lose,
     Late,
     Burst,
+    Reset,
     Wrong,
     Bound,
     HarmFields,
@@ -63,7 +66,7 @@ enum Step {
 }
 
 /// How often each step is taken under each theme; a theme holds for a while.
-const WEIGHTS: [(Step, [u64; 6]); 26] = [
+const WEIGHTS: [(Step, [u64; 6]); 27] = [
     // calm, losses, bursts, bounds, harm, questions
     (Step::Next, [300, 200, 120, 120, 120, 80]),
     (Step::Recover, [60, 120, 40, 60, 60, 40]),
@@ -73,6 +76,7 @@ const WEIGHTS: [(Step, [u64; 6]); 26] = [
     (Step::Lose, [6, 40, 20, 6, 6, 6]),
     (Step::Late, [16, 50, 10, 10, 10, 10]),
     (Step::Burst, [1, 3, 14, 0, 0, 0]),
+    (Step::Reset, [16, 18, 20, 12, 14, 8]),
     (Step::Wrong, [24, 24, 16, 10, 10, 10]),
     (Step::Bound, [16, 16, 6, 300, 30, 12]),
     (Step::HarmFields, [20, 20, 10, 60, 260, 20]),
@@ -162,12 +166,13 @@ pub fn sweep(seed: u64) -> Vec<Call> {
     calls
 }
 
-/// How many numbers of a store aren't zero, where it has places, queued entries and a loop that
-/// runs.
+/// How many numbers of a store aren't zero, where it has places, queued entries with a J for all
+/// among them, and a loop that runs.
 fn numbers_used(keeper: &Keeper) -> usize {
     let Some(channel) = &keeper.channel else { return 0 };
     let places = channel.instruments.iter().any(|instrument| !instrument.book.bids.is_empty());
-    if places && !channel.queue.is_empty() && channel.running.is_some() {
+    let for_all = channel.queue.iter().any(|queued| queued.entry == Entry::EmptyAll);
+    if places && for_all && channel.running.is_some() {
         layout::words(channel).iter().filter(|word| **word != 0).count()
     } else {
         0
@@ -189,6 +194,7 @@ impl Generator {
             Step::Lose => self.lose(),
             Step::Late => self.late(),
             Step::Burst => self.burst(),
+            Step::Reset => self.reset(),
             Step::Wrong => self.wrong(),
             Step::Bound => self.bound(),
             Step::HarmFields => self.harm_fields(),

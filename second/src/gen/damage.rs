@@ -63,7 +63,7 @@ fn in_side(store: &[u64], at: usize, index: usize) -> Use {
     }
 }
 
-/// What number `i` of queue entry `k` is: J and the deletes have no place.
+/// What number `i` of queue entry `k` is: J, of one or for all, and the deletes have no place.
 fn in_slot(store: &[u64], k: usize, i: usize) -> Use {
     let (what, action) = (store[slot(k) + 2], store[slot(k) + 3]);
     match i {
@@ -143,16 +143,18 @@ fn place_range(store: &[u64], index: usize, i: usize) -> (u64, u64) {
 }
 
 fn slot_range(store: &[u64], k: usize, i: usize) -> (u64, u64) {
-    let (what, action) = (store[slot(k) + 2], store[slot(k) + 3]);
+    let [who, what, action] = [1, 2, 3].map(|i| store[slot(k) + i]);
     let last = k + 1 == store[AT_QUEUED] as usize;
     match i {
         0 => {
             let low = if k > 0 { store[slot(k - 1)] } else { store[AT_B] + 1 };
             (low, if last { store[AT_H] } else { store[slot(k + 1)] })
         }
+        1 if what == J_FOR_ALL => (0, 0),
         1 => (0, store[AT_FOLLOWED] - 1),
         2 if what < 2 => (0, 1),
-        2 => (2, 2),
+        2 if who > 0 => (J_OF_ONE, J_OF_ONE),
+        2 => (J_OF_ONE, J_FOR_ALL),
         3 if action < 2 => (0, 1),
         3 => (2, 4),
         _ => (1, 65_535),
@@ -327,10 +329,10 @@ fn change_side(rng: &mut Rng, store: &[u64]) -> Changes {
 
 /// A good queue entry with this number.
 fn good_slot(rng: &mut Rng, store: &[u64], number: u64) -> [u64; SLOT] {
-    let who = rng.between(0, store[AT_FOLLOWED] - 1);
-    let (what, action) = (rng.between(0, 2), rng.between(0, 4));
+    let (what, action) = (rng.between(0, J_FOR_ALL), rng.between(0, 4));
+    let who = if what == J_FOR_ALL { 0 } else { rng.between(0, store[AT_FOLLOWED] - 1) };
     let mut words = [number, who, what, action, rng.between(1, 25), 0, 0, 0, 0, 0];
-    if what == 2 {
+    if what >= J_OF_ONE {
         words[3..5].copy_from_slice(&[0, 0]);
     } else if action < 2 {
         words[5..].copy_from_slice(&good_place(rng, store));
@@ -363,6 +365,23 @@ fn change_queue(rng: &mut Rng, store: &[u64]) -> Changes {
     }
 }
 
+/// A queue entry as J for all, or just not: with an instrument, of another kind, or without one of
+/// its zeros.
+fn change_for_all(rng: &mut Rng, store: &[u64]) -> Changes {
+    let queued = store[AT_QUEUED] as usize;
+    if queued == 0 {
+        return some_numbers(rng, store);
+    }
+    let mut words = [0, J_FOR_ALL, 0, 0, 0, 0, 0, 0, 0, 0];
+    match rng.below(6) {
+        0 | 1 => words[0] = rng.between(1, 2),
+        2 | 3 => words[1] = *rng.pick(&[J_OF_ONE, J_FOR_ALL + 1, J_FOR_ALL + 1, 1 << 32 | J_FOR_ALL]),
+        4 => words[2 + rng.below(8)] = 1,
+        _ => {}
+    }
+    set_run(slot(rng.below(queued)) + 1, &words)
+}
+
 fn slot_at(store: &[u64], k: usize) -> [u64; SLOT] {
     std::array::from_fn(|i| store[slot(k) + i])
 }
@@ -391,7 +410,7 @@ fn change_order_id(rng: &mut Rng, store: &[u64]) -> Changes {
 
 /// Changes to a store that was opened.
 fn some_changes(rng: &mut Rng, store: &[u64]) -> Changes {
-    match rng.below(16) {
+    match rng.below(17) {
         0..=4 => some_numbers(rng, store),
         5 | 6 => change_heading(rng, store),
         7 => change_instruments(rng, store),
@@ -400,6 +419,7 @@ fn some_changes(rng: &mut Rng, store: &[u64]) -> Changes {
         11 => change_order_id(rng, store),
         12 | 13 => change_loop(rng, store),
         14 => change_price(rng, store),
+        15 => change_for_all(rng, store),
         _ => rng.pick(&older_layouts()).clone(),
     }
 }

@@ -8,9 +8,21 @@ use super::values::{self, OTHER_TAGS};
 
 /// An entry of X in the making.
 pub enum Entry {
-    Side { id: u64, side: usize, action: u32, position: usize, row: Row },
-    Empty { id: u64 },
-    PassedOver { id: u64 },
+    Side {
+        id: u64,
+        side: usize,
+        action: u32,
+        position: usize,
+        row: Row,
+    },
+    Empty {
+        id: u64,
+    },
+    /// J without 48.
+    EmptyAll,
+    PassedOver {
+        id: u64,
+    },
 }
 
 /// A field that is passed over.
@@ -106,10 +118,12 @@ impl Entry {
             }
             Entry::Empty { id } => {
                 action = rng.between(0, 4) as u32;
-                let mut fields = vec![field(269, "J")];
-                fields.extend(instrument(rng, *id));
-                unread(rng, &mut fields, &[270, 271, 37, 346, 272, 273, 290]);
-                fields
+                let told = instrument(rng, *id);
+                empty_fields(rng, told)
+            }
+            Entry::EmptyAll => {
+                action = rng.between(0, 4) as u32;
+                empty_fields(rng, Vec::new())
             }
             Entry::PassedOver { id } => passed_over(rng, *id, true),
         };
@@ -120,6 +134,14 @@ impl Entry {
         sprinkle(rng, &mut rest, 3);
         rest
     }
+}
+
+/// A J with what tells its instrument, or with nothing that does.
+fn empty_fields(rng: &mut Rng, told: Vec<DraftField>) -> Vec<DraftField> {
+    let mut fields = vec![field(269, "J")];
+    fields.extend(told);
+    unread(rng, &mut fields, &[270, 271, 37, 346, 272, 273, 290]);
+    fields
 }
 
 /// A bid or an offer: new and change carry a place, the deletes may.

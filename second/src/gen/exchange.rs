@@ -13,6 +13,8 @@ use crate::field::DECIMALS;
 
 /// The last number that a message can have.
 pub const LAST_NUMBER: u64 = 4_294_967_295;
+/// Of so many entries one is J for all.
+const RESETS: usize = 300;
 /// How many past numbers the true books are kept for.
 const PAST: usize = 700;
 
@@ -83,6 +85,8 @@ pub enum Who {
     Followed,
     /// Only entries that don't join the queue.
     NotFollowed,
+    /// Only entries of this instrument.
+    One(usize),
 }
 
 /// What a message should hold.
@@ -94,6 +98,8 @@ pub struct Wish {
     pub sparse: bool,
     /// How many entries ask for a place that isn't there or for room that isn't there.
     pub wrong: usize,
+    /// How many entries are J for all.
+    pub resets: usize,
 }
 
 pub struct Exchange {
@@ -192,21 +198,34 @@ impl Exchange {
         let mut draft = self.headed(rng, "X");
         entries::sprinkle(rng, &mut draft.fields, 1);
         entries::open_group(rng, &mut draft.fields, wish.entries);
-        let wrong: Vec<usize> = (0..wish.wrong).map(|_| rng.below(wish.entries.max(1))).collect();
+        let some = |rng: &mut Rng, n: usize| (0..n).map(|_| rng.below(wish.entries.max(1))).collect();
+        let wrong: Vec<usize> = some(rng, wish.wrong);
+        let resets: Vec<usize> = some(rng, wish.resets);
         for i in 0..wish.entries {
-            let entry = if wrong.contains(&i) { self.wrong_entry(rng) } else { self.true_entry(rng, wish) };
+            let entry = match i {
+                i if resets.contains(&i) => self.reset(),
+                i if wrong.contains(&i) => self.wrong_entry(rng),
+                _ => self.true_entry(rng, wish),
+            };
             draft.fields.extend(entry.fields(rng, self.depth));
         }
         self.remember();
         draft
     }
 
-    /// An X that empties an instrument's book and then builds this one, from place 1 on or from the
-    /// last place up.
+    /// J for all: every true book is emptied.
+    fn reset(&mut self) -> Entry {
+        self.books.fill(Rc::default());
+        Entry::EmptyAll
+    }
+
+    /// An X that empties an instrument's book, or all, and then builds this one, from place 1 on or
+    /// from the last place up.
     pub fn next_book(&mut self, rng: &mut Rng, index: usize, book: TrueBook) -> Draft {
         self.tick(rng);
         let (id, upwards) = (self.ids[index], rng.chance(50));
-        let mut all = vec![Entry::Empty { id }];
+        let first = if rng.chance(12) { self.reset() } else { Entry::Empty { id } };
+        let mut all = vec![first];
         for (side, rows) in book.sides.iter().enumerate() {
             let new = |position, row: &Row| Entry::Side { id, side, action: 0, position, row: row.clone() };
             if upwards {
@@ -240,6 +259,7 @@ impl Exchange {
         let others = self.ids.len() - self.followed;
         match who {
             Who::NotFollowed => self.followed + rng.below(others),
+            Who::One(index) => index,
             Who::Any if rng.chance(20) => rng.below(self.ids.len()),
             _ => rng.below(self.followed),
         }
@@ -247,6 +267,9 @@ impl Exchange {
 
     /// An entry that the true books bear, and that is applied to them.
     fn true_entry(&mut self, rng: &mut Rng, wish: Wish) -> Entry {
+        if wish.who != Who::NotFollowed && rng.below(RESETS) == 0 {
+            return self.reset();
+        }
         let index = self.some_instrument(rng, wish.who);
         let id = self.ids[index];
         if rng.chance(if wish.sparse { 35 } else { 3 }) {

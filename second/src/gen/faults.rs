@@ -34,7 +34,7 @@ impl Generator {
     }
 
     /// Feeds a harmed message, and mostly the whole one where the harmed one is refused.
-    fn feed_harmed(&mut self, whole: &Draft, harmed: Vec<u8>) {
+    pub(super) fn feed_harmed(&mut self, whole: &Draft, harmed: Vec<u8>) {
         let answer = self.feed(harmed);
         if answer >= 11 && self.rng.chance(80) {
             self.feed(whole.seal());

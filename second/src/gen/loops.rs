@@ -85,7 +85,7 @@ impl Generator {
     }
 
     /// Mostly sees to it that some instrument waits, with entries in the queue.
-    fn let_some_wait(&mut self) {
+    pub(super) fn let_some_wait(&mut self) {
         if self.exchange.at_end() {
             return;
         }
@@ -147,8 +147,14 @@ impl Generator {
         if self.exchange.at_end() {
             return;
         }
-        match self.rng.below(7) {
+        match self.rng.below(9) {
             0..=2 => self.queue_book(index, [0, 0]),
+            7 => self.reset_message(Who::One(index)),
+            8 => {
+                let held = [self.rng.below(4), self.rng.below(4)];
+                self.queue_book(index, held);
+                self.reset_message(Who::One(index));
+            }
             3 => {
                 let held = [self.rng.below(4), self.rng.below(4)];
                 self.queue_book(index, held);

@@ -7,6 +7,8 @@ use super::{bounds, values, Generator};
 /// How many times in a hundred a needed field stands, and one that isn't needed.
 const NEEDED: u64 = 96;
 const UNNEEDED: u64 = 25;
+/// How many times in a hundred each of 48, 22 and 207 stands in a J for all.
+const UNTOLD: u64 = 8;
 /// How many times in a hundred a value is good.
 const GOOD: u64 = 96;
 
@@ -111,12 +113,18 @@ impl Generator {
         let side = kind == "0" || kind == "1";
         let place = if side && action < "2" { NEEDED } else { UNNEEDED };
         let by = |depth: u64| if self.exchange.depth == depth { place } else { UNNEEDED };
-        let told = if side || kind == "J" { NEEDED } else { UNNEEDED };
+        let for_all = kind == "J" && self.rng.chance(40);
+        let told = match (side || kind == "J", for_all) {
+            (_, true) => UNTOLD,
+            (true, false) => NEEDED,
+            (false, false) => UNNEEDED,
+        };
+        let exchange = if for_all { UNTOLD } else { 40 };
         let position = if side { NEEDED } else { UNNEEDED };
         let tags = [
             (48, told),
             (22, told),
-            (207, 40),
+            (207, exchange),
             (290, position),
             (270, place),
             (271, place),

@@ -44,6 +44,11 @@ impl Generator {
     /// A true snapshot of an instrument, as of a number that lies in B to H.
     pub(super) fn true_snapshot(&mut self, index: usize) -> Draft {
         let last = self.some_last();
+        self.snapshot_at(index, last)
+    }
+
+    /// A true snapshot of an instrument, as of this number.
+    pub(super) fn snapshot_at(&mut self, index: usize, last: u64) -> Draft {
         let book = self.exchange.book_at(index, last);
         self.snapshot_draft(index, last, &book)
     }

@@ -126,7 +126,7 @@ impl Generator {
     }
 
     /// With a full queue: a message whose entries don't join it, a snapshot, one more entry.
-    fn after_burst(&mut self) {
+    pub(super) fn after_burst(&mut self) {
         if self.rng.chance(40) && !self.exchange.at_end() {
             let message = self.exchange.next_other(&mut self.rng).seal();
             self.feed(message);
