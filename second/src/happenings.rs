@@ -1,5 +1,7 @@
-//! What scripts lead loops of snapshots through, counted. A call is looked at from outside: what
-//! the store held before it, the message, and what the store holds after it.
+//! What scripts lead loops of snapshots and J for all through, counted. A call is looked at from
+//! outside: what the store held before it, the message, and what the store holds after it.
+
+mod for_all;
 
 use std::collections::BTreeSet;
 
@@ -8,7 +10,7 @@ use crate::channel::Channel;
 use crate::instrument::Instrument;
 use crate::keeper::Keeper;
 use crate::loops::Loop;
-use crate::message::{snapshot_of, Snapshot};
+use crate::message::{counted_of, snapshot_of, Snapshot};
 use crate::run::run_plainly;
 use crate::script::Call;
 
@@ -94,6 +96,30 @@ happenings! {
     Mixed: "an unnamed one taken, and another's replay broke",
     NoneWaits: "none waits after the unnamed: the queue emptied, or B moved",
     SomeWait: "an unnamed one taken while another waits on",
+    AllAlone: "J for all alone in its message, none waiting",
+    AllAloneQueued: "J for all alone in its message, one waiting",
+    AllSeveral: "J for all empties several books that hold places",
+    AllWhileWaiting: "J for all empties a book that holds places while another instrument waits",
+    AllBefore: "J for all before an entry of a Live instrument",
+    AllAfter: "J for all behind an entry of a Live instrument",
+    AllBetween: "J for all between two entries of one Live instrument",
+    AllTwice: "J for all twice, with an entry of a Live instrument between",
+    AllAfterBreak: "J for all behind a break in its message",
+    AllBeforeBreak: "a break behind a J for all in its message",
+    AllBuilt: "a place made behind a J for all in its message",
+    AllOld: "J for all in an old message",
+    AllGap: "J for all in the message of a gap",
+    AllTo255: "J for all with which the queue holds 255",
+    AllTo256: "J for all alone as the 256th entry of the queue",
+    AllTo256Beside: "J for all beside others with which the queue holds 256",
+    AllTo257: "J for all alone as the 257th: the queue let go",
+    AllTo257Beside: "J for all beside others, together one too many: the queue let go",
+    AllAboveS: "a snapshot whose replay meets a J for all",
+    AllAboveSLater: "such a snapshot of another instrument than the first",
+    AllAtS: "a snapshot with S the number of a queued J for all",
+    AllBelowS: "a snapshot with S above the number of a queued J for all",
+    AllInLoop: "an unnamed one taken whose replay meets a J for all",
+    AllInLoopBroke: "an unnamed one whose replay meets a J for all and breaks",
 }
 
 /// How often each happening was reached.
@@ -205,8 +231,14 @@ impl Watch {
 
     /// A message that was fed to a sound store.
     fn fed(&mut self, before: &Channel, bytes: &[u8], answer: u64, counts: &mut Happenings) {
+        if let Some(counted) = counted_of(bytes, before.depth) {
+            for_all::count_message(before, &counted, answer, counts);
+        }
         match snapshot_of(bytes, before.depth) {
-            Some(snapshot) => self.turn(before, &snapshot, answer, bytes, counts),
+            Some(snapshot) => {
+                for_all::count_snapshot(before, &snapshot, answer, counts);
+                self.turn(before, &snapshot, answer, bytes, counts);
+            }
             None if before.running.is_some() => self.lay_between(before, bytes, answer),
             None => {}
         }
@@ -398,7 +430,10 @@ fn count_unnamed(
     counts: &mut Happenings,
 ) {
     let replays = |id: u64| before.queue.iter().any(|it| it.entry.concerns(id) && it.number > lowest);
+    let meets_all = for_all::numbers(before).any(|number| number > lowest);
     for (was, is) in waited {
+        counts.count_if(meets_all && !is.waiting, Happening::AllInLoop);
+        counts.count_if(meets_all && is.waiting, Happening::AllInLoopBroke);
         match (is.waiting, is.reason) {
             (false, _) if replays(was.id) => counts.count(Happening::Replay),
             (false, _) => counts.count(Happening::NoReplay),

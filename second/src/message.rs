@@ -59,6 +59,14 @@ pub fn snapshot_of(bytes: &[u8], depth: Depth) -> Option<Snapshot> {
     }
 }
 
+/// The counted message that these bytes are, if they are a well-formed one.
+pub fn counted_of(bytes: &[u8], depth: Depth) -> Option<Counted> {
+    match read(bytes, depth) {
+        Ok(Message::Counted(counted)) => Some(counted),
+        _ => None,
+    }
+}
+
 /// 8, 9, 35 and 10 stand once.
 fn ends_stand_once(middle: &[Field]) -> bool {
     !middle.iter().any(|field| [8, 9, 35, 10].contains(&field.0)) || on(Flip::EndsTwice)

@@ -31,6 +31,7 @@ fn scripts_show_flips() {
         calls.iter().filter(|call| !matches!(call, Call::Damage { .. })).cloned().collect();
     lots_are_shortened(&whole);
     loops_are_shortened(&whole);
+    for_all_is_shortened(&whole);
     walks_are_shortened(calls);
 }
 
@@ -64,6 +65,18 @@ fn loops_are_shortened(calls: &[Call]) {
         assert!(shortest.len() <= 12, "{}", script_text(&shortest));
         let last = if FLIPS[number - 1].0 == Flip::LoopOpeningLeaves { "open" } else { "feed" };
         assert_eq!(shortest.last().and_then(Call::function), Some(last), "{}", script_text(&shortest));
+    }
+}
+
+/// The shortest script that shows a wrong J for all has few calls, the last of them a message.
+fn for_all_is_shortened(calls: &[Call]) {
+    let found = shown("All", calls);
+    assert!(found.len() >= 25, "only {found:?}");
+    for number in found.into_iter().step_by(5) {
+        let shortest = shrink::shrink(calls, &mut |calls| shows(number, calls));
+        assert!(shows(number, &shortest));
+        assert!(shortest.len() <= 12, "{}", script_text(&shortest));
+        assert_eq!(shortest.last().and_then(Call::function), Some("feed"), "{}", script_text(&shortest));
     }
 }
 

@@ -5,8 +5,8 @@ use selkavorn_second::gen::damage::{just_outside, loop_edges, range};
 use selkavorn_second::gen::{script, sweep};
 use selkavorn_second::keeper::Keeper;
 use selkavorn_second::layout::{
-    read, record, side, words, AT_COME, AT_DEPTH, AT_FOLLOWED, AT_LAYOUT, AT_LOWEST, AT_MARKS, AT_NAMED,
-    AT_REPORTS, LAYOUT, NUMBERS, OLDER_LAYOUTS,
+    read, record, side, slot, words, AT_COME, AT_DEPTH, AT_FOLLOWED, AT_LAYOUT, AT_LOWEST, AT_MARKS,
+    AT_NAMED, AT_QUEUED, AT_REPORTS, J_FOR_ALL, LAYOUT, NUMBERS, OLDER_LAYOUTS,
 };
 use selkavorn_second::run::run_plainly;
 use selkavorn_second::script::{read_script, Call};
@@ -168,6 +168,32 @@ fn a_sweep_meets_loops() {
         assert!([AT_REPORTS, AT_COME, AT_LOWEST, AT_NAMED].into_iter().all(outside));
         let records = changed.iter().filter(|it| it.len() == 4 && it[0].0 == AT_REPORTS as u64);
         assert!(records.count() > 20);
+    }
+}
+
+/// A sweep's store has a J for all in its queue, with each of its numbers just outside its range.
+#[test]
+fn a_sweep_meets_a_j_for_all() {
+    for seed in 1..=10 {
+        let mut keeper = Keeper::default();
+        let mut swept = Vec::new();
+        for call in sweep(seed) {
+            match &call {
+                Call::Damage { changes, .. } => swept.push(changes.clone()),
+                _ => {
+                    run_plainly(&mut keeper, &call);
+                    swept.clear();
+                }
+            }
+        }
+        let store = keeper.words();
+        let queued = (0..store[AT_QUEUED] as usize).map(slot);
+        let at = queued.clone().find(|at| store[at + 2] == J_FOR_ALL).expect("a J for all");
+        assert_eq!(store[at + 1..at + 11], [0, J_FOR_ALL, 0, 0, 0, 0, 0, 0, 0, 0]);
+        let outside = (1..11).map(|i| ((at + i) as u64, if i == 2 { J_FOR_ALL + 1 } else { 1 }));
+        for change in outside {
+            assert!(swept.contains(&vec![change]), "{change:?}");
+        }
     }
 }
 
