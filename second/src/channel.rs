@@ -126,7 +126,7 @@ impl Channel {
         self.heard = Some(message.time);
         let waited = self.waiting() > 0;
         let let_go = waited && self.join_queue(message);
-        let broke = self.give_to_live(message);
+        let broke = self.give_to_live(message, let_go);
         self.settle(broke && either(Flip::BreakMovesB, !waited, true));
         let_go
     }
@@ -188,13 +188,15 @@ impl Channel {
 
     /// Live instruments get their entries in order; the other entries of one that breaks are
     /// passed over. Says whether one breaks.
-    fn give_to_live(&mut self, message: &Counted) -> bool {
+    fn give_to_live(&mut self, message: &Counted, let_go: bool) -> bool {
         let before: Vec<u64> = self.instruments.iter().filter(|i| !i.waiting).map(|i| i.id).collect();
         let waited = before.len() < self.instruments.len();
         let (mut broke, mut emptied) = (false, false);
         for entry in in_turn(&message.entries, Flip::AllGivenFirst, Flip::AllGivenLast) {
             let Entry::One { id, step } = entry else {
-                let passed = (waited && on(Flip::AllLeftToQueue)) || (emptied && on(Flip::AllSecondPassed));
+                let passed = (waited && on(Flip::AllLeftToQueue))
+                    || (let_go && on(Flip::AllLetGoLeaves))
+                    || (emptied && on(Flip::AllSecondPassed));
                 if !passed {
                     self.empty_live(message, &before);
                 }
@@ -315,7 +317,12 @@ impl Channel {
             Entry::EmptyAll => self.meets_all(queued.number, first, id),
         };
         let after = self.queue.iter().filter(reached).filter(|queued| queued.entry.concerns(id));
-        after.map(|queued| queued.entry.clone()).collect()
+        let mut entries: Vec<Entry> = after.map(|queued| queued.entry.clone()).collect();
+        if on(Flip::AllForgives) {
+            let last = entries.iter().rposition(|entry| *entry == Entry::EmptyAll);
+            entries.drain(..last.unwrap_or(0));
+        }
+        entries
     }
 
     /// Whether the replay of an instrument from `first` on meets a J for all with this number:

@@ -1,7 +1,14 @@
 //! Request K4 of document 02: a J without 48 empties every followed instrument's book.
 
+use selkavorn_second::book::{Entry, Step};
+use selkavorn_second::channel::Channel;
+use selkavorn_second::gen::draft::{field, Draft};
+use selkavorn_second::gen::script;
 use selkavorn_second::keeper::Keeper;
 use selkavorn_second::layout::{read, slot, words, AT_QUEUED, J_FOR_ALL, J_OF_ONE, LAYOUT};
+use selkavorn_second::message::counted_of;
+use selkavorn_second::run::run_plainly;
+use selkavorn_second::script::Call;
 
 const STORE: u64 = 7_168;
 const PLACE: &str = "270=1|271=1|37=A|346=1|272=20250103|273=12:00:00|";
@@ -328,4 +335,85 @@ fn in_the_store() {
     for number in [2, 4] {
         assert!(!sound(&[(at, number)]), "{number}");
     }
+}
+
+/// The message with a J of each instrument in place of each J for all.
+fn spelled_out(bytes: &[u8], ids: &[u64]) -> Vec<u8> {
+    let fields = Draft::unseal(bytes).fields;
+    let start = fields.iter().position(|it| it.0 == "279").expect("an entry");
+    let mut entries: Vec<Vec<_>> = Vec::new();
+    for it in &fields[start..] {
+        match entries.last_mut() {
+            Some(entry) if it.0 != "279" => entry.push(it.clone()),
+            _ => entries.push(vec![it.clone()]),
+        }
+    }
+    let is_for_all = |entry: &[(String, Vec<u8>)]| {
+        entry.contains(&field(269, "J")) && !entry.iter().any(|it| it.0 == "48")
+    };
+    let mut spelled = fields[..start].to_vec();
+    let mut count = 0;
+    for entry in entries {
+        let told: Vec<u64> = if is_for_all(&entry) { ids.to_vec() } else { vec![0] };
+        for id in told {
+            spelled.extend(entry.clone());
+            if id > 0 {
+                spelled.extend([field(48, id.to_string()), field(22, "8")]);
+            }
+            count += 1;
+        }
+    }
+    let at = spelled.iter().position(|it| it.0 == "268").expect("268");
+    spelled[at] = field(268, count.to_string());
+    Draft { fields: spelled }.seal()
+}
+
+/// What an instrument's replay would meet.
+fn steps(channel: &Channel, id: u64) -> Vec<(u64, Step)> {
+    let of_it = channel.queue.iter().filter(|queued| queued.entry.concerns(id));
+    of_it.map(|queued| (queued.number, queued.entry.step().clone())).collect()
+}
+
+/// A J for all does what a J of each followed instrument does, one after another, but for its one
+/// place in the queue.
+#[test]
+fn as_a_j_of_each() {
+    let mut met = [0, 0];
+    for seed in 1..=40 {
+        let mut keeper = Keeper::default();
+        for call in script(seed, 1_000) {
+            let before = keeper.channel.clone();
+            run_plainly(&mut keeper, &call);
+            let (Some(before), Some(after), Call::Feed { store_n: STORE, message }) =
+                (before, &keeper.channel, &call)
+            else {
+                continue;
+            };
+            let Some(counted) = counted_of(message, before.depth) else { continue };
+            let ids: Vec<u64> = before.instruments.iter().map(|it| it.id).collect();
+            let resets = counted.entries.iter().filter(|entry| **entry == Entry::EmptyAll).count();
+            let joining = counted.entries.len() + resets * (ids.len() - 1);
+            if resets == 0 || before.queue.len() + joining > 256 {
+                continue;
+            }
+            let spelled = spelled_out(message, &ids);
+            let mut other = before.clone();
+            if counted_of(&spelled, before.depth).is_none() {
+                // More than 64 entries, or more than 8,192 bytes.
+                continue;
+            }
+            other.feed(&spelled);
+            assert_eq!((after.b, after.h, after.heard), (other.b, other.h, other.heard));
+            assert_eq!(after.running, other.running);
+            for (is, spelled) in after.instruments.iter().zip(&other.instruments) {
+                assert_eq!(
+                    (is.waiting, is.reason, &is.book),
+                    (spelled.waiting, spelled.reason, &spelled.book)
+                );
+                assert_eq!(steps(after, is.id), steps(&other, is.id));
+            }
+            met[usize::from(before.waiting() > 0)] += 1;
+        }
+    }
+    assert!(met.iter().all(|met| *met > 100), "{met:?}");
 }
