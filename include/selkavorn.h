@@ -1,4 +1,4 @@
-/* Selkavorn 3.0: keeps the order books of one exchange channel and gives dated quotes.
+/* Selkavorn 3.1: keeps the order books of one exchange channel and gives dated quotes.
  *
  * This is the header of the books. Its functions are proved, and stand in libselkavorn.a (x86-64
  * Linux), as do those of selkavorn_lots.h, which say what a quantity brings down a book.
@@ -21,7 +21,7 @@
  *   Waiting    the book is empty and is not to be used; it waits for a snapshot, or for a whole
  *              loop that does not name it.
  *   broken     an entry did not fit its side (no such place, or no room among 20): the instrument
- *              is emptied and waits, with a reason. Others are not touched.
+ *              is emptied and waits, with a reason. Others are not touched by that.
  *   snapshot   a W message: the book of one instrument as of the number S in its tag 369.
  *   loop       W messages in a row with 34 = 1, 2 and so on up to 911, and one 911 throughout. It
  *              is whole when the last of them has come. It names the instruments in their tags 48.
@@ -39,6 +39,11 @@
  *   Entries with 269 = 0 are bids, 1 offers, J (in X) an empty book; other kinds, as trades, and
  *   other tags are passed over. Other types are refused (13) and not counted: if such a message has
  *   a number of the incremental stream, the next one shows a gap.
+ *   A J with 48 and 22, and 207 if it stands, is of one instrument, as bids and offers are. One
+ *   without 48, 22 and 207 is of all that are followed: at that point of the message it empties the
+ *   book of each that is Live, which stays Live. One that is Waiting stays as it is. In the queue
+ *   such a J is one entry. It joins while any instrument waits, also where its message has no other
+ *   entry, and replay applies it to whichever instrument takes a snapshot with S below its number.
  *   A price (270) is a minus or nothing, 1 to 9 digits, then nothing or a point and 1 to 8 digits.
  *
  * Instruments with no snapshot ("A whole loop")
@@ -114,10 +119,10 @@
  * What a call costs
  *   Every call on a store but selkavorn_open reads its first 7,168 numbers once, to see that they
  *   are sound; selkavorn_open writes them once. A feed then takes time by the length of its
- *   message, a W that is taken by that of the queue too, and one that ends a loop as much again
- *   for each instrument that takes an empty snapshot. selkavorn_salvage takes time by the bytes
- *   that it walks. At most 17,400 bytes of stack were used in any call that was measured, and
- *   24,576 is the budget. docs/BENCH.md has times.
+ *   message, a J of all by how many are followed, a W that is taken by the length of the queue too,
+ *   and one that ends a loop as much again for each instrument that takes an empty snapshot.
+ *   selkavorn_salvage takes time by the bytes that it walks. At most 17,400 bytes of stack were
+ *   used in any call that was measured, and 24,576 is the budget. docs/BENCH.md has times.
  *
  * Answers
  *   Every call answers a number of enum selkavorn_answer; selkavorn_feed and selkavorn_write put a
@@ -155,6 +160,11 @@ extern "C" {
 /* The version: of this header and of the archive that it came with. The first number changes when a
  * program that was right may have to change, the second when something is added.
  *
+ * From 3.0 to 3.1
+ *   A J without 48, 22 and 207 is read, and empties every book at that point of its message; it was
+ *   14. One without 48 that has 22 or 207 still is.
+ *   A store of 3.0 is read as it stands. One whose queue holds such a J is 17 to 3.0.
+ *
  * From 2.0 to 3.0
  *   Compile anew: code built with the 2.0 header takes prices and sums for ten times what they are.
  *   Prices and sums are hundred-millionths, and were ten-millionths: use SELKAVORN_PRICE_UNIT, and
@@ -164,9 +174,9 @@ extern "C" {
  *   A writing may need 4,307 bytes, and is then 25 in 4,267.
  *   A store of before is 17 until it is opened afresh, and then waits for snapshots. */
 #define SELKAVORN_VERSION_MAJOR 3
-#define SELKAVORN_VERSION_MINOR 0
+#define SELKAVORN_VERSION_MINOR 1
 #define SELKAVORN_VERSION_PATCH 0
-#define SELKAVORN_VERSION "3.0.0"
+#define SELKAVORN_VERSION "3.1.0"
 
 #define SELKAVORN_STORE_NUMBERS 7168     /* numbers that a store has at least */
 #define SELKAVORN_QUOTE_NUMBERS 17       /* numbers that a quote writes */
