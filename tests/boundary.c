@@ -1683,6 +1683,477 @@ static void test_prices(void)
     end();
 }
 
+/* ---- an empty book of all instruments ---- */
+
+#define LATER "52=20250103-13:00:07.125|"
+#define ALL "279=0|269=J|" /* a J of all instruments */
+#define VALUES "270=24.01|271=12|37=ORDER-12345|346=3|" STAMP "290=1|"
+#define BID_OF(id) "279=0|269=0|48=" id "|22=8|" VALUES
+#define OFFER_OF(id) "279=0|269=1|48=" id "|22=8|" VALUES
+#define NO_PLACE_OF(id) "279=2|269=0|48=" id "|22=8|290=9|"
+#define EMPTY_OF(id) "279=0|269=J|48=" id "|22=8|"
+enum { QUEUED_AT = 7, QUEUE_AT = 4256, SLOT_NUMBERS = 11, QUEUE = 256 }; /* in the store */
+
+/* Opens the first board for 7 and 9: both are Live, with a bid and an offer each at number 1. */
+static void open_both(uint64_t depth)
+{
+    open_fresh(&first, depth);
+    feed(&first, SELKAVORN_TAKEN, 1, "7 at 369 = 0", EMPTY_W, 7, 0);
+    feed(&first, SELKAVORN_TAKEN, 0, "9 at 369 = 0", EMPTY_W, 9, 0);
+    feed(&first, SELKAVORN_DONE, 0, "both books",
+         "35=X|34=1|" AT "268=4|" BID_OF("7") OFFER_OF("7") BID_OF("9") OFFER_OF("9"));
+}
+
+/* Feeds the first board an X with these entries. */
+static void feed_entries(int number, int count, const char *entries, uint64_t answer,
+                         uint64_t waiting, const char *what)
+{
+    feed(&first, answer, waiting, what, "35=X|34=%d|" LATER "268=%d|%s", number, count, entries);
+}
+
+/* The book of an instrument must be as open_both made it. */
+static void check_kept(uint64_t id, const char *what)
+{
+    check_equal(state(&first, id, SELKAVORN_STATE_NUMBERS), SELKAVORN_DONE, what);
+    check_equal(numbers[SELKAVORN_STATE_WAITING], 0, what);
+    check_equal(numbers[SELKAVORN_STATE_BIDS], 1, what);
+    check_equal(numbers[SELKAVORN_STATE_OFFERS], 1, what);
+}
+
+/* An instrument must be Live with a quote of two empty sides, dated by this number. */
+static void check_emptied(uint64_t id, uint64_t number, const char *what)
+{
+    check_standing(id, live, what);
+    check_equal(quote(&first, id, "20250103-13:00:07.125", 0, 17), SELKAVORN_DONE, what);
+    check_equal(numbers[SELKAVORN_QUOTE_NUMBER], number, what);
+    check_equal(numbers[SELKAVORN_QUOTE_HEARD_DATE], 20250103, what);
+    check_equal(numbers[SELKAVORN_QUOTE_HEARD_TIME], 130007125, what);
+    for (size_t i = SELKAVORN_QUOTE_BID; i < SELKAVORN_QUOTE_NUMBERS; i++)
+        check_equal(numbers[i], 0, what);
+}
+
+/* The book of an instrument must be written as the message of 110 bytes, with these two values. */
+static void check_empty_writing(int id, int number)
+{
+    struct writing w = {(uint64_t)id, "SHED", "YARD", 1, 1, "20250103-13:00:00.000", BYTES_ROOM};
+    make("35=W|49=SHED|56=YARD|34=1|" AT "48=%d|22=8|207=BVMF|369=%d|911=1|268=0|", id, number);
+    check_equal(write_book(&first, w), 256 * 110, "110 bytes are written");
+    check_equal(message_n, 110, "110 bytes are made");
+    check(memcmp(bytes, message, message_n) == 0, "the message of an empty book");
+}
+
+static void test_all(void)
+{
+    static uint64_t kept[SELKAVORN_STORE_NUMBERS];
+    begin("J of all instruments");
+    for (uint64_t depth = 0; depth < 2; depth++) {
+        open_both(depth);
+        check_kept(7, "7 has a book");
+        check_kept(9, "9 has a book");
+        feed_entries(2, 1, ALL, SELKAVORN_DONE, 0, "it is counted");
+        check_emptied(7, 2, "7 is Live and empty");
+        check_emptied(9, 2, "9 is Live and empty");
+        check_summary(2, 20250103, 130007125, 2, 0, "none waits, B is H");
+        check_empty_writing(7, 2);
+        check_empty_writing(9, 2);
+        check_lot((struct lot){SELL, 9, 5, "20250103-13:00:07.125", 0, SELKAVORN_LOT_NUMBERS},
+                  SELKAVORN_DONE, "a lot of an empty book");
+        check_equal(numbers[SELKAVORN_LOT_LEFT], 5, "all units are left");
+        memcpy(kept, store_of(&first), sizeof kept);
+        open_both(depth);
+        feed_entries(2, 2, EMPTY_OF("7") EMPTY_OF("9") "207=BVMF|", SELKAVORN_DONE, 0, "J of each");
+        check(memcmp(kept, store_of(&first), sizeof kept) == 0, "the store is that of a J of each");
+        feed_entries(3, 1, BID_OF("9"), SELKAVORN_DONE, 0, "the books grow anew");
+        check_standing(7, live, "7 is empty still");
+        check_standing(9, live_with_bid, "9 has a bid");
+        open_both(depth);
+        feed_entries(2, 1, EMPTY_OF("9"), SELKAVORN_DONE, 0, "a J of one");
+        check_kept(7, "a J of one leaves the others");
+        check_emptied(9, 2, "a J of one");
+    }
+    end();
+}
+
+/* Each of 16 is emptied, with 20 bids and 20 offers in it. */
+static void test_all_of_most(void)
+{
+    static const uint64_t ids[] = {1, 2, 3, 4, 5, 6, 7, 8, 9, 10, 11, 12, 13, 14, 15, 16};
+    char entries[MESSAGE_ROOM / 2] = "";
+    size_t n = 0;
+    begin("J of 16 instruments");
+    for (int i = 0; i < 40; i++)
+        n += (size_t)snprintf(entries + n, sizeof entries - n,
+                              "269=%d|270=%d|271=1|37=A%d|" STAMP "290=%d|", i / 20, 100 - i, i,
+                              i % 20 + 1);
+    fresh(&first);
+    check_equal(open_board(&first, SELKAVORN_ORDER_DEPTH, ids, 16), SELKAVORN_DONE, "opening");
+    for (int id = 1; id <= 16; id++)
+        feed(&first, SELKAVORN_TAKEN, (uint64_t)(16 - id), "40 places",
+             "35=W|34=1|" AT "48=%d|22=8|369=0|911=2|268=40|%s", id, entries);
+    feed_entries(1, 1, ALL, SELKAVORN_DONE, 0, "all 640 places");
+    for (uint64_t id = 1; id <= 16; id++)
+        check_emptied(id, 1, "each of 16");
+    bool clear = true;
+    for (size_t i = 160; i < SELKAVORN_STORE_NUMBERS; i++)
+        clear = clear && store_of(&first)[i] == 0;
+    check(clear, "no number of a book or of the queue is left");
+    end();
+}
+
+/* Entries that are refused. */
+static const struct {
+    const char *what, *entry;
+} bad_entries[] = {{"J with 22 alone", "279=0|269=J|22=8|"},
+                   {"J with 207 alone", "279=0|269=J|207=BVMF|"},
+                   {"J with 22 and 207", "279=0|269=J|22=8|207=BVMF|"},
+                   {"J with another 22", "279=0|269=J|22=4|"},
+                   {"J with another 207", "279=0|269=J|207=X|"},
+                   {"J with 22 before 269", "279=0|22=8|269=J|"},
+                   {"J with 48 alone", "279=0|269=J|48=7|"},
+                   {"J with 48 and 207", "279=0|269=J|48=7|207=BVMF|"},
+                   {"J with 48 and another 22", "279=0|269=J|48=7|22=4|"},
+                   {"J with 48 and another 207", "279=0|269=J|48=7|22=8|207=X|"},
+                   {"J with 48 = 0", "279=0|269=J|48=0|22=8|"},
+                   {"J with 48 = 07", "279=0|269=J|48=07|22=8|"},
+                   {"J with 48 = 0 alone", "279=0|269=J|48=0|"},
+                   {"J with 48 twice", "279=0|269=J|48=7|48=7|22=8|"},
+                   {"J with 279 = 5", "279=5|269=J|"},
+                   {"J with 279 = 00", "279=00|269=J|"},
+                   {"J twice in an entry", "279=0|269=J|269=J|"},
+                   {"J with 369", "279=0|269=J|369=1|"},
+                   {"no 269", "279=0|"},
+                   {"bid without 48", "279=0|269=0|22=8|" VALUES},
+                   {"bid without 48 and 22", "279=0|269=0|" VALUES},
+                   {"offer without 48", "279=0|269=1|22=8|" VALUES},
+                   {"offer without 48 and 22", "279=0|269=1|" VALUES},
+                   {"change without 48 and 22", "279=1|269=0|" VALUES},
+                   {"delete without 48", "279=2|269=0|22=8|290=1|"},
+                   {"delete without 48 and 22", "279=2|269=1|290=1|"},
+                   {"delete from without 48 and 22", "279=4|269=0|290=1|"}};
+
+static void test_all_refused(void)
+{
+    begin("J without 48 that is refused");
+    for (size_t i = 0; i < sizeof bad_entries / sizeof *bad_entries; i++) {
+        const char *what = bad_entries[i].what, *entry = bad_entries[i].entry;
+        char two[MESSAGE_ROOM / 16];
+        for (int waiting = 0; waiting < 2; waiting++) {
+            const uint64_t wait = waiting ? 1 : 0;
+            if (waiting)
+                open_with_book(&first);
+            else
+                open_both(SELKAVORN_ORDER_DEPTH);
+            feed_entries(2, 1, entry, SELKAVORN_FIELDS, wait, what);
+            snprintf(two, sizeof two, "%s%s", BID_OF("7"), entry);
+            feed_entries(2, 2, two, SELKAVORN_FIELDS, wait, what);
+            snprintf(two, sizeof two, "%s%s", ALL, entry);
+            feed_entries(2, 2, two, SELKAVORN_FIELDS, wait, what);
+            snprintf(two, sizeof two, "%s%s", entry, ALL);
+            feed_entries(2, 2, two, SELKAVORN_FIELDS, wait, what);
+            check_kept(7, what);
+            feed_entries(3, 1, entry, SELKAVORN_FIELDS, wait, "14 comes before a gap");
+            feed_entries(1, 1, entry, SELKAVORN_FIELDS, wait, "14 comes before 2");
+            feed_entries(2, 1, ALL, SELKAVORN_DONE, wait, "it was not counted");
+        }
+    }
+    open_both(SELKAVORN_ORDER_DEPTH);
+    feed_entries(2, 2, ALL, SELKAVORN_FIELDS, 0, "268 above its entries");
+    feed_entries(2, 0, ALL, SELKAVORN_FIELDS, 0, "268 below its entries");
+    feed(&first, SELKAVORN_FIELDS, 0, "48 in the head", "35=X|34=2|" AT "48=7|268=1|" ALL);
+    end();
+}
+
+/* Entries that empty all books. */
+static const char *const good_entries[] = {
+    ALL, "279=1|269=J|", "279=2|269=J|", "279=3|269=J|", "279=4|269=J|", "279=0|58=J|269=J|55=A|",
+    "279=0|269=J|290=0|270=x|271=0|37=A B|346=0|272=x|273=x|", "279=0|290=1|269=J|"};
+
+/* Entries that leave the books of 7 and 9. */
+static const char *const passed_entries[] = {
+    "279=0|269=2|", "279=0|269=JJ|", "279=0|269=j|", "279=0|269=00|22=9|", "279=0|269=2|48=7|22=8|",
+    EMPTY_OF("55"), EMPTY_OF("55") "207=BVMF|"};
+
+static void test_all_read(void)
+{
+    static const char types[] = "0fyB";
+    begin("J of all instruments as it is read");
+    for (size_t i = 0; i < sizeof good_entries / sizeof *good_entries; i++) {
+        open_both(SELKAVORN_ORDER_DEPTH);
+        feed_entries(2, 1, good_entries[i], SELKAVORN_DONE, 0, good_entries[i]);
+        check_emptied(7, 2, good_entries[i]);
+        check_emptied(9, 2, good_entries[i]);
+    }
+    open_both(SELKAVORN_ORDER_DEPTH);
+    int number = 2;
+    for (size_t i = 0; i < sizeof passed_entries / sizeof *passed_entries; i++)
+        feed_entries(number++, 1, passed_entries[i], SELKAVORN_DONE, 0, passed_entries[i]);
+    for (int i = 0; types[i] != '\0'; i++)
+        feed(&first, SELKAVORN_DONE, 0, "another type", "35=%c|34=%d|" AT "268=1|" ALL, types[i],
+             number++);
+    feed_entries(1, 1, ALL, SELKAVORN_OLD, 0, "an old one");
+    feed_entries(number - 1, 1, ALL, SELKAVORN_OLD, 0, "the last number again");
+    check_kept(7, "7 has its book");
+    check_kept(9, "9 has its book");
+    open_fresh(&first, SELKAVORN_ORDER_DEPTH);
+    feed(&first, SELKAVORN_TAKEN, 1, "J in a W is passed over",
+         "35=W|34=1|" AT "48=7|22=8|369=0|911=2|268=3|269=J|269=0|" VALUES "269=J|");
+    check_standing(7, live_with_bid, "the bid of the W");
+    feed(&first, SELKAVORN_FIELDS, 1, "J in a W, with 48",
+         "35=W|34=1|" AT "48=9|22=8|369=0|911=2|268=1|269=J|48=9|22=8|");
+    feed(&first, SELKAVORN_FIELDS, 1, "J in a W, with 22",
+         "35=W|34=1|" AT "48=9|22=8|369=0|911=2|268=1|269=J|22=8|");
+    end();
+}
+
+/* Where in its message a J of all stands, beside a break or entries of the same books. */
+static void test_all_in_message(void)
+{
+    static const struct standing no_place = {1, SELKAVORN_REASON_PLACE, 0};
+    begin("J of all instruments within a message");
+    open_both(SELKAVORN_ORDER_DEPTH);
+    feed_entries(2, 2, NO_PLACE_OF("7") ALL, SELKAVORN_DONE, 1, "a break before it");
+    check_standing(7, no_place, "7 stays Waiting, with its reason");
+    check_emptied(9, 2, "9 is emptied");
+    check_summary(2, 20250103, 130007125, 2, 1, "none waited before: B is H");
+    check_equal(store_of(&first)[QUEUED_AT], 0, "nothing is queued");
+    feed_entries(3, 3, BID_OF("9") ALL BID_OF("9"), SELKAVORN_DONE, 1, "7 waits");
+    check_standing(7, no_place, "Waiting, with its reason, as before");
+    check_standing(9, live_with_bid, "9 has the bid behind it");
+    check_summary(3, 20250103, 130007125, 2, 1, "B stays");
+    check_equal(store_of(&first)[QUEUED_AT], 3, "three entries are queued");
+    open_both(SELKAVORN_ORDER_DEPTH);
+    feed_entries(2, 2, ALL "279=2|269=1|48=9|22=8|290=1|", SELKAVORN_DONE, 1, "a break behind it");
+    check_emptied(7, 2, "7 is emptied");
+    check_standing(9, no_place, "9 has no place to delete");
+    open_both(SELKAVORN_ORDER_DEPTH);
+    feed_entries(2, 3, NO_PLACE_OF("7") ALL BID_OF("7"), SELKAVORN_DONE, 1, "and entries of 7");
+    check_standing(7, no_place, "the rest of the message is passed over for 7");
+    open_both(SELKAVORN_ORDER_DEPTH);
+    feed_entries(2, 4, BID_OF("7") ALL BID_OF("7") BID_OF("7"), SELKAVORN_DONE, 0, "between bids");
+    check_standing(7, (struct standing){0, 0, 2}, "7 has what is behind it");
+    check_emptied(9, 2, "9 is emptied");
+    open_both(SELKAVORN_ORDER_DEPTH);
+    feed_entries(2, 3, ALL BID_OF("7") ALL, SELKAVORN_DONE, 0, "one more behind them");
+    check_emptied(7, 2, "7 is emptied again");
+    check_emptied(9, 2, "9 is emptied again");
+    open_both(SELKAVORN_ORDER_DEPTH);
+    feed_entries(2, 2, ALL "279=0|269=0|48=9|22=8|270=1|271=1|37=A|" STAMP "290=2|",
+                 SELKAVORN_DONE, 1, "new at place 2 behind it");
+    check_standing(9, no_place, "9 has no place 1");
+    open_fresh(&first, SELKAVORN_ORDER_DEPTH);
+    feed_entries(1, 1, ALL, SELKAVORN_DONE, 2, "both wait");
+    check_standing(7, waits, "7 waits on");
+    check_summary(1, 20250103, 130007125, 0, 3, "B stays");
+    check_equal(quote(&first, 7, "20250103-13:00:07.125", 0, 17), SELKAVORN_WAITING, "no quote");
+    open_both(SELKAVORN_ORDER_DEPTH);
+    feed_entries(5, 1, ALL, SELKAVORN_GAP, 2, "a gap");
+    check_summary(5, 20250103, 130007125, 4, 3, "all wait");
+    check_equal(store_of(&first)[QUEUED_AT], 1, "it is queued");
+    make_bids(4, 2);
+    feed_made(&first, SELKAVORN_TAKEN, 1, "a snapshot of before the gap's message");
+    check_standing(7, live, "it is emptied");
+    end();
+}
+
+/* Makes an X with that many J of all. */
+static void make_alls(int number, int entries)
+{
+    char text[MESSAGE_ROOM / 2] = "";
+    for (int i = 0; i < entries; i++)
+        strcat(text, ALL);
+    make("35=X|34=%d|" LATER "268=%d|%s", number, entries, text);
+}
+
+/* Opens the first board for 7, 8 and 9, which all wait, and queues that many J of 7, 193 to 256,
+ * in messages 1 to 4. */
+static void open_queued(int entries)
+{
+    static const uint64_t ids[] = {7, 8, 9};
+    fresh(&first);
+    check_equal(open_board(&first, SELKAVORN_ORDER_DEPTH, ids, 3), SELKAVORN_DONE, "opening");
+    for (int number = 1; number <= 4; number++) {
+        make_empties(number, number < 4 ? 64 : entries - 3 * 64);
+        feed_made(&first, SELKAVORN_DONE, 3, "they join");
+    }
+    check_equal(store_of(&first)[QUEUED_AT], (uint64_t)entries, "so many are queued");
+}
+
+/* Feeds message 5 to a board that waits. So many entries must be queued after it; none where the
+ * queue is let go. */
+static void check_joins(int count, const char *entries, uint64_t queued, const char *what)
+{
+    feed_entries(5, count, entries, queued == 0 ? SELKAVORN_LET_GO : SELKAVORN_DONE, 3, what);
+    check_equal(store_of(&first)[QUEUED_AT], queued, what);
+    check_summary(5, 20250103, 130007125, queued == 0 ? 5 : 0, 7, what);
+}
+
+static void test_all_queued(void)
+{
+    static const uint64_t slot[SLOT_NUMBERS] = {6, 0, 3};
+    begin("J of all instruments in the queue");
+    open_queued(QUEUE - 2);
+    check_joins(1, ALL, QUEUE - 1, "the 255th");
+    open_queued(QUEUE - 1);
+    check_joins(1, ALL, QUEUE, "the 256th");
+    feed(&first, SELKAVORN_DONE, 3, "256 stay", HEARTBEAT, 6);
+    feed(&first, SELKAVORN_SNAPSHOT_UNFOLLOWED, 0, "all replay from 4 on",
+         "35=W|34=1|" AT "48=55|22=8|369=4|911=1|268=0|");
+    open_queued(QUEUE);
+    check_joins(1, ALL, 0, "the 257th");
+    feed(&first, SELKAVORN_SNAPSHOT_BELOW, 3, "B is 5", EMPTY_W, 7, 4);
+    open_queued(QUEUE - 1);
+    check_joins(2, ALL ALL, 0, "the 256th and the 257th");
+    open_queued(QUEUE - 2);
+    check_joins(2, ALL ALL, QUEUE, "the 255th and the 256th");
+    open_queued(QUEUE - 1);
+    check_joins(3, "279=0|269=2|" ALL EMPTY_OF("55"), QUEUE, "others that are passed over");
+    open_queued(QUEUE - 2);
+    check_joins(2, BID_OF("8") ALL, QUEUE, "a bid and then it");
+    open_fresh(&first, SELKAVORN_ORDER_DEPTH);
+    for (int number = 1; number <= 4; number++) {
+        make_alls(number, 64);
+        feed_made(&first, SELKAVORN_DONE, 2, "64 of them join");
+    }
+    check_equal(store_of(&first)[QUEUED_AT], QUEUE, "256 of them are queued");
+    make_alls(5, 1);
+    feed_made(&first, SELKAVORN_LET_GO, 2, "257 of them are let go");
+    open_with_book(&first);
+    for (int number = 2; number <= 4; number++) {
+        make_alls(number, 64);
+        feed_made(&first, SELKAVORN_DONE, 1, "9 waits");
+    }
+    feed_entries(5, 1, BID_OF("7"), SELKAVORN_DONE, 1, "7 has a bid");
+    make_alls(6, 64);
+    feed_made(&first, SELKAVORN_LET_GO, 1, "64 more are let go");
+    check_emptied(7, 6, "7 is emptied all the same");
+    open_options();
+    feed_entries(6, 1, ALL, SELKAVORN_DONE, 3, "alone in its message");
+    check_equal(store_of(&first)[QUEUED_AT], 3, "it is queued behind the two bids");
+    for (size_t i = 0; i < SLOT_NUMBERS; i++)
+        check_equal(store_of(&first)[QUEUE_AT + 2 * SLOT_NUMBERS + i], slot[i], "its slot");
+    open_both(SELKAVORN_ORDER_DEPTH);
+    feed_entries(2, 1, ALL, SELKAVORN_DONE, 0, "none waits");
+    check_equal(store_of(&first)[QUEUED_AT], 0, "it is not queued");
+    end();
+}
+
+/* Whoever takes a snapshot with S below its number meets it. */
+static void test_all_replayed(void)
+{
+    begin("J of all instruments in replays");
+    for (int last = 0; last <= 3; last++)
+        for (int other_last = 0; other_last <= 3; other_last++) {
+            open_fresh(&first, SELKAVORN_ORDER_DEPTH);
+            feed(&first, SELKAVORN_DONE, 2, "1", HEARTBEAT, 1);
+            feed_entries(2, 1, ALL, SELKAVORN_DONE, 2, "2, alone in its message");
+            feed(&first, SELKAVORN_DONE, 2, "3", HEARTBEAT, 3);
+            make_turn(1, 2, 9, last, 2);
+            feed_made(&first, SELKAVORN_TAKEN, 1, "9 is taken");
+            check_standing(9, (struct standing){0, 0, last < 2 ? 0 : 2}, "emptied if S is below 2");
+            make_turn(1, 2, 7, other_last, 3);
+            feed_made(&first, SELKAVORN_TAKEN, 0, "7 is taken");
+            check_standing(7, (struct standing){0, 0, other_last < 2 ? 0 : 3}, "and so is 7");
+            check_standing(9, (struct standing){0, 0, last < 2 ? 0 : 2}, "9 stays");
+        }
+    open_options();
+    feed_entries(6, 3, BID_OF("7") ALL BID_OF("9"), SELKAVORN_DONE, 3, "between two bids");
+    make_turn(1, 2, 7, 5, 5);
+    feed_made(&first, SELKAVORN_TAKEN, 2, "7 is taken");
+    check_standing(7, live, "7: what was before it is gone");
+    make_turn(1, 2, 9, 5, 5);
+    feed_made(&first, SELKAVORN_TAKEN, 1, "9 is taken");
+    check_standing(9, live_with_bid, "9: what came behind it is there");
+    make_turn(1, 2, 8, 6, 5);
+    feed_made(&first, SELKAVORN_TAKEN, 0, "8 is taken at its number");
+    check_standing(8, (struct standing){0, 0, 5}, "8: the snapshot has it already");
+    open_options();
+    feed_entries(6, 2, NO_PLACE_OF("7") ALL, SELKAVORN_DONE, 3, "what does not fit, before it");
+    make_turn(1, 2, 7, 5, 2);
+    feed_made(&first, SELKAVORN_REPLAY_BROKE, 3, "the replay breaks before it");
+    feed_entries(7, 1, "279=2|269=0|48=8|22=8|290=1|", SELKAVORN_DONE, 3, "a delete behind it");
+    make_turn(1, 2, 8, 5, 2);
+    feed_made(&first, SELKAVORN_REPLAY_BROKE, 3, "the replay breaks behind it");
+    check_standing(8, (struct standing){1, SELKAVORN_REASON_PLACE, 0}, "8 has no place to delete");
+    make_turn(1, 2, 8, 6, 2);
+    feed_made(&first, SELKAVORN_TAKEN, 2, "from 6 on it fits");
+    check_standing(8, live_with_bid, "8 has one bid of two");
+    open_options();
+    feed_entries(6, 1, ALL, SELKAVORN_DONE, 3, "a place for 20 more");
+    make_turn(1, 2, 9, 4, 20);
+    feed_made(&first, SELKAVORN_REPLAY_BROKE, 3, "no room before it");
+    check_standing(9, (struct standing){1, SELKAVORN_REASON_NO_ROOM, 0}, "9 has no room");
+    feed_entries(7, 1, BID_OF("9"), SELKAVORN_DONE, 3, "a bid of 9");
+    make_turn(1, 2, 9, 5, 20);
+    feed_made(&first, SELKAVORN_TAKEN, 2, "room behind it");
+    check_standing(9, live_with_bid, "9 has the last bid");
+    open_options();
+    feed_entries(6, 1, ALL, SELKAVORN_DONE, 3, "before the end of a loop");
+    feed_entries(7, 1, BID_OF("9"), SELKAVORN_DONE, 3, "a bid of 9");
+    feed_turn(1, 1, OTHER, 2, SELKAVORN_SNAPSHOT_UNFOLLOWED, 0, "the loop is whole");
+    check_standing(7, live, "7 is empty");
+    check_standing(8, live, "8: its bid of 4 is gone");
+    check_standing(9, live_with_bid, "9: its bid of 7 is there");
+    open_options();
+    feed_entries(6, 1, ALL, SELKAVORN_DONE, 3, "before the end of a loop");
+    feed_entries(7, 1, "279=1|269=0|48=8|22=8|" VALUES, SELKAVORN_DONE, 3, "a change of 8");
+    feed_turn(1, 1, OTHER, 3, SELKAVORN_SNAPSHOT_UNFOLLOWED, 1, "the loop is whole");
+    check_standing(8, (struct standing){1, SELKAVORN_REASON_PLACE, 0}, "8: its bid of 4 is gone");
+    check_standing(9, live, "9: its bid of 5 too");
+    end();
+}
+
+/* Numbers of the slot of a J of all, which is queued alone, and whether the store is then sound. */
+static const struct {
+    const char *what;
+    size_t at;
+    uint64_t value;
+    bool sound;
+} slots[] = {{"as it is", 2, 3, true},
+             {"its instrument is 1", 1, 1, false},
+             {"its instrument is 15", 1, 15, false},
+             {"its instrument is far above", 1, UINT64_MAX, false},
+             {"a J of the first instrument", 2, 2, true},
+             {"a bid without a place", 2, 0, false},
+             {"what is 4", 2, 4, false},
+             {"what is 5", 2, 5, false},
+             {"what is 259", 2, 259, false},
+             {"what is far above", 2, UINT64_MAX, false},
+             {"an action", 3, 1, false},
+             {"a place", 4, 1, false},
+             {"a price", 5, 1, false},
+             {"a size", 6, 1, false},
+             {"an order", 7, 1, false},
+             {"more of it", 8, 1, false},
+             {"a moment", 9, 1, false},
+             {"the spare number", 10, 1, false},
+             {"a number above H", 0, 2, false},
+             {"a number of B", 0, 0, false}};
+
+static void test_all_store(void)
+{
+    begin("store with a J of all instruments");
+    for (size_t i = 0; i < sizeof slots / sizeof *slots; i++) {
+        open_fresh(&first, SELKAVORN_ORDER_DEPTH);
+        feed_entries(1, 1, ALL, SELKAVORN_DONE, 2, "it is queued");
+        store_of(&first)[QUEUE_AT + slots[i].at] = slots[i].value;
+        if (slots[i].sound)
+            feed(&first, SELKAVORN_DONE, 2, slots[i].what, HEARTBEAT, 2);
+        else
+            check_refused_store(slots[i].what);
+    }
+    open_fresh(&first, SELKAVORN_ORDER_DEPTH);
+    feed_entries(1, 1, EMPTY_OF("9"), SELKAVORN_DONE, 2, "a J of the second instrument");
+    check_equal(store_of(&first)[QUEUE_AT + 1], 1, "its instrument");
+    check_equal(store_of(&first)[QUEUE_AT + 2], 2, "it is of one");
+    store_of(&first)[QUEUE_AT + 2] = 3;
+    check_refused_store("a J of all with an instrument");
+    open_fresh(&first, SELKAVORN_ORDER_DEPTH);
+    feed_entries(1, 1, ALL, SELKAVORN_DONE, 2, "it is queued");
+    store_of(&first)[QUEUE_AT + SLOT_NUMBERS + 2] = 3;
+    check_refused_store("a slot that is not used");
+    end();
+}
+
 static void test_walk_arguments(void)
 {
     begin("arguments of a walk");
@@ -1923,6 +2394,14 @@ int main(void)
     test_writing();
     test_round_trip();
     test_prices();
+    test_all();
+    test_all_of_most();
+    test_all_refused();
+    test_all_read();
+    test_all_in_message();
+    test_all_queued();
+    test_all_replayed();
+    test_all_store();
     test_walk_arguments();
     test_walk();
     test_cut();
