@@ -253,12 +253,21 @@ static bool read_place(const struct fields *in, enum plain_depth depth, struct p
     return whole(in, S346, 1, 65535, &to->by);
 }
 
+/* A J without 48 is for all; 22 and 207 may not stand then. */
+static bool read_empty_all(const struct fields *in, struct message *m)
+{
+    if (has(in, S22) || has(in, S207)) return false;
+    m->entries[m->n++] = (struct plain_entry){.number = m->number, .kind = PLAIN_EMPTY_ALL};
+    return true;
+}
+
 static bool read_x_entry(const struct plain_board *board, const struct fields *in, struct message *m)
 {
     uint64_t action, id, place = 0;
     if (!has(in, S269) || !whole(in, S279, NEW, DELETE_FROM, &action)) return false;
     const enum plain_kind kind = kind_of(in->values[S269]);
     if (kind == PLAIN_PASSED) return true;
+    if (kind == PLAIN_EMPTY && !has(in, S48)) return read_empty_all(in, m);
     if (!read_instrument(in, &id)) return false;
     struct plain_entry *to = &m->entries[m->n];
     if (kind != PLAIN_EMPTY) {
@@ -452,11 +461,10 @@ static uint8_t work(struct plain_side *side, const struct plain_entry *entry)
 
 static void empty(struct plain_side sides[2]) { sides[0].held = sides[1].held = 0; }
 
-/* Gives an entry to its instrument; false where that breaks it. */
-static bool give(struct plain_board *board, const struct plain_entry *entry)
+/* Gives an entry to an instrument that it is for; false where that breaks it. */
+static bool give(struct plain_board *board, const struct plain_entry *entry, uint32_t i)
 {
-    const uint32_t i = entry->instrument;
-    if (entry->kind == PLAIN_EMPTY) {
+    if (entry->kind >= PLAIN_EMPTY) {
         empty(board->sides[i]);
         return true;
     }
@@ -469,6 +477,15 @@ static bool give(struct plain_board *board, const struct plain_entry *entry)
 }
 
 static bool waits(const struct plain_board *board, uint32_t instrument) { return board->waiting >> instrument & 1; }
+
+/* Gives an entry to those that are Live and that it is for; false where that breaks one. */
+static bool give_live(struct plain_board *board, const struct plain_entry *entry)
+{
+    if (entry->kind != PLAIN_EMPTY_ALL) return waits(board, entry->instrument) || give(board, entry, entry->instrument);
+    for (uint32_t i = 0; i < board->followed; i++)
+        if (!waits(board, i)) give(board, entry, i);
+    return true;
+}
 
 /* ---- numbers, queue and marks ---- */
 
@@ -508,8 +525,7 @@ static uint64_t count(struct plain_board *board, const struct message *m)
     const bool waited = board->waiting != 0;
     const bool joined = !waited || join(board, m);
     bool broke = false;
-    for (uint32_t i = 0; i < m->n; i++)
-        if (!waits(board, m->entries[i].instrument)) broke |= !give(board, &m->entries[i]);
+    for (uint32_t i = 0; i < m->n; i++) broke |= !give_live(board, &m->entries[i]);
     if (board->waiting == 0 || (broke && !waited)) let_go(board, board->number);
     return gap ? SELKAVORN_GAP : joined ? SELKAVORN_DONE : SELKAVORN_LET_GO;
 }
@@ -529,7 +545,8 @@ static bool replay(struct plain_board *board, uint32_t instrument, uint64_t last
 {
     for (uint32_t k = 0; k < board->queued; k++) {
         const struct plain_entry *const entry = &board->queue[k];
-        if (entry->instrument == instrument && entry->number > last && !give(board, entry)) return false;
+        const bool is_for = entry->instrument == instrument || entry->kind == PLAIN_EMPTY_ALL;
+        if (is_for && entry->number > last && !give(board, entry, instrument)) return false;
     }
     board->waiting &= (uint16_t)~(1u << instrument);
     board->reasons[instrument] = SELKAVORN_REASON_NONE;

@@ -12,7 +12,7 @@ extern "C" {
 
 enum { PLAIN_INSTRUMENTS = 16, PLAIN_PLACES = 20, PLAIN_QUEUE = 256 };
 enum plain_depth { PLAIN_ORDER_DEPTH, PLAIN_PRICE_DEPTH };
-enum plain_kind { PLAIN_BID, PLAIN_OFFER, PLAIN_EMPTY, PLAIN_PASSED };
+enum plain_kind { PLAIN_BID, PLAIN_OFFER, PLAIN_EMPTY, PLAIN_EMPTY_ALL, PLAIN_PASSED };
 
 /* A place of a side: as many bytes as in a store. */
 struct plain_place {
@@ -28,10 +28,10 @@ struct plain_side {
     struct plain_place places[PLAIN_PLACES];
 };
 
-/* A bid, an offer or an empty book (J) for a followed instrument. */
+/* A bid, an offer or an empty book (J) for a followed instrument, or an empty book for all. */
 struct plain_entry {
-    uint64_t number; /* of its message */
-    uint32_t instrument;
+    uint64_t number;     /* of its message */
+    uint32_t instrument; /* 0 where it is for all */
     enum plain_kind kind;
     uint32_t action;
     uint32_t place;
