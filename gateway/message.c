@@ -37,6 +37,31 @@ bool message_names_instruments(const struct piece *message)
     return message_has_type(message, 'X') || message_has_type(message, 'W');
 }
 
+/* Says whether the bytes from `from` up to `end`, fields of one entry, are a J without 48. */
+static bool is_empty_of_all(const uint8_t *from, const uint8_t *end)
+{
+    const struct piece entry = {.bytes = from, .length = (uint64_t)(end - from)};
+    struct value kind = message_first(&entry, "269");
+    return kind.length == 1 && kind.bytes[0] == 'J' && message_first(&entry, "48").bytes == NULL;
+}
+
+/* An entry begins at each 279, which stands nowhere else. */
+bool message_empties_all(const struct piece *message)
+{
+    size_t from = 0;
+    if (!message_has_type(message, 'X'))
+        return false;
+    struct value action = message_value(message, "279", &from);
+    while (action.bytes != NULL) {
+        struct value next = message_value(message, "279", &from);
+        const uint8_t *end = next.bytes != NULL ? next.bytes : message->bytes + message->length;
+        if (is_empty_of_all(action.bytes, end))
+            return true;
+        action = next;
+    }
+    return false;
+}
+
 /* Puts the digits that stand in a value from byte `at` on, at most `most` of them, behind those of
  * the number; gives how many they are. */
 static size_t add_digits(struct value value, size_t at, size_t most, uint64_t *number)

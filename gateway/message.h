@@ -27,6 +27,10 @@ bool message_has_type(const struct piece *message, char type);
 /* Says whether the message is an X or a W. */
 bool message_names_instruments(const struct piece *message);
 
+/* Says whether a message that the library counted has an empty book (269=J) without 48, which is of
+ * all instruments. */
+bool message_empties_all(const struct piece *message);
+
 /* The number that a value of up to 18 digits writes; 0 for any other value. */
 uint64_t value_number(struct value value);
 

@@ -18,6 +18,7 @@ struct totals {
     uint64_t runs, passed;   /* runs of passed bytes, and their bytes */
     uint64_t fields_refused; /* messages answered SELKAVORN_FIELDS */
     uint64_t well_formed;    /* X and W messages answered 0 to 10 */
+    uint64_t empties;        /* counted messages that emptied the books of the whole channel */
     uint64_t resets_passed;  /* sequence resets that were passed over */
     uint64_t resets_lost;    /* openings because a sequence reset was lost */
     uint64_t of_before;      /* messages that were sent before a reset, and not fed */
@@ -109,6 +110,28 @@ static void take_reset(struct replay *replay, const struct piece *reset)
         open_afresh(replay, reset);
 }
 
+static bool is_counted(uint64_t answer)
+{
+    return answer == SELKAVORN_DONE || answer == SELKAVORN_GAP || answer == SELKAVORN_LET_GO;
+}
+
+/* Tells of a counted message that emptied the books of the whole channel. Each that is Live after
+ * it was Live at that point of it too, since a counted message makes none Live. */
+static void tell_emptied(struct replay *replay, const struct piece *message, uint64_t answered)
+{
+    uint64_t live = replay->request->ids_n - SELKAVORN_WAITING_COUNT(answered);
+    if (!is_counted(SELKAVORN_ANSWER(answered)) || !message_empties_all(message))
+        return;
+    replay->totals.empties++;
+    if (replay->request->quote_only)
+        return;
+    printf("%10s  empty book for the whole channel", "");
+    if (live == 0)
+        puts(", and all are Waiting");
+    else
+        printf(": %" PRIu64 " Live %s emptied\n", live, live == 1 ? "book" : "books");
+}
+
 /* Feeds one message and gives the answer. */
 static uint64_t feed(struct replay *replay, const struct piece *message)
 {
@@ -124,15 +147,15 @@ static uint64_t feed(struct replay *replay, const struct piece *message)
     loops_after(&replay->loops, board, replay->request, message, answer);
     if (is_reset(message, answer))
         take_reset(replay, message);
-    if (!shows_lost_reset(replay->request, &before, message, answer))
-        return answer;
-    if (replay->request->pass_resets) {
-        board->lost_reset = true;
-        return answer;
+    bool lost = shows_lost_reset(replay->request, &before, message, answer);
+    if (lost && !replay->request->pass_resets) {
+        replay->totals.resets_lost++;
+        open_afresh(replay, message);
+        return feed(replay, message); /* a fresh board finds nothing old */
     }
-    replay->totals.resets_lost++;
-    open_afresh(replay, message);
-    return feed(replay, message); /* a fresh board finds nothing old */
+    board->lost_reset = board->lost_reset || lost;
+    tell_emptied(replay, message, answered);
+    return answer;
 }
 
 /* A well-formed message of before the reset is not fed: its number would be taken for a new one. */
@@ -173,6 +196,9 @@ static void print_totals(const struct replay *replay)
     if (is_table && replay->loops.taken > 0)
         printf("Empty books taken at the end of whole loops of snapshots: %" PRIu64 ".\n",
                replay->loops.taken);
+    if (is_table && totals->empties > 0)
+        printf("Messages that emptied the books of the whole channel: %" PRIu64 ".\n",
+               totals->empties);
     if (totals->resets_passed > 0)
         fprintf(to,
                 "Sequence resets passed over: %" PRIu64 ". If one was of the incremental stream, "
