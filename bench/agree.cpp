@@ -95,6 +95,19 @@ void set_loop(Fields &fields, const plain_loop &loop, Draw &draw) {
     set(fields, 911, other_reports || !runs ? 1 + draw.below(6) : loop.reports);
 }
 
+bool begins_entry(const std::string &f) { return f.compare(0, 4, "279=") == 0; }
+
+// Puts an empty book of all instruments before one of the entries of an X or behind the last; now and then it stands alone.
+void add_empty(Fields &fields, Draw &draw) {
+    if (draw.below(3) == 0) fields.erase(std::find_if(fields.begin(), fields.end(), begins_entry), fields.end());
+    std::vector<size_t> places = {fields.size()};
+    for (size_t i = 0; i < fields.size(); i++)
+        if (begins_entry(fields[i])) places.push_back(i);
+    set(fields, 268, places.size());
+    const Fields entry = empty_of_all(draw.below(5));
+    fields.insert(fields.begin() + static_cast<long>(places[draw.below(static_cast<unsigned>(places.size()))]), entry.begin(), entry.end());
+}
+
 // The next message: an X, a snapshot or a heartbeat, numbered after what the board holds, and often harmed.
 std::string next(const Source &source, const plain_board &board, Draw &draw) {
     const unsigned sort = draw.below(10);
@@ -106,6 +119,7 @@ std::string next(const Source &source, const plain_board &board, Draw &draw) {
     Fields fields = type == 'W' ? middle(draw.below(20) ? stream.snapshots[draw.below(INSTRUMENTS)] : source.over)
                                 : middle(changes[draw.below(static_cast<unsigned>(changes.size()))]);
     if (type == '0') fields.resize(4);
+    if (type == 'X' && draw.below(24) == 0) add_empty(fields, draw);
     if (type == 'W') {
         set(fields, 369, back == 0 ? board.complete : back == 1 ? board.number : std::max<uint64_t>(board.number, 1) - 1);
         if (draw.below(20) == 0) set(fields, 369, draw.below(2) ? board.number + 1 : std::max<uint64_t>(board.complete, 1) - 1);
@@ -136,6 +150,20 @@ void count_end(const plain_board &was, const plain_board &is, Brought &brought) 
     }
 }
 
+int places(const plain_board &board, uint32_t i) { return static_cast<int>(board.sides[i][0].held + board.sides[i][1].held); }
+
+// Counts what empty books of all instruments brought, by a message with this answer.
+void count_empties(const plain_board &was, const plain_board &is, uint64_t answer, Brought &brought) {
+    auto of_all = [](const plain_entry &e) { return e.kind == PLAIN_EMPTY_ALL; };
+    auto joined = [&was, of_all](const plain_entry &e) { return of_all(e) && e.number > was.number; };
+    int lost = 0;
+    for (uint32_t i = 0; i < is.followed; i++)
+        lost += !((was.waiting | is.waiting) >> i & 1) && places(was, i) > 0 && places(is, i) == 0;
+    brought.emptied += lost > 1;
+    brought.queued += is.number > was.number && std::any_of(is.queue, is.queue + is.queued, joined);
+    brought.met += answer == SELKAVORN_TAKEN && std::any_of(was.queue, was.queue + was.queued, of_all);
+}
+
 } // namespace
 
 std::string disagreement(Depth depth, int messages, Brought &brought) {
@@ -162,6 +190,7 @@ std::string disagreement(Depth depth, int messages, Brought &brought) {
         const uint64_t answer = SELKAVORN_ANSWER(ours);
         brought.answers[answer]++;
         if (answer >= SELKAVORN_TAKEN && answer <= SELKAVORN_REPLAY_BROKE) count_end(was, board, brought);
+        count_empties(was, board, answer, brought);
         std::string differs;
         if (ours != theirs) differs = "answered " + std::to_string(ours) + " and " + std::to_string(theirs);
         else if ((n + 1) % BETWEEN == 0 || n + 1 == messages) differs = difference(store, seen(board));

@@ -12,6 +12,9 @@ struct Brought {
     // Instruments at the ends of loops that did not name them: those that went Live with an empty book, those that did with places, and
     // those that broke.
     int empty = 0, replayed = 0, broke = 0;
+    // Empty books of all instruments: messages by which two Live books or more lost all their places, those of which one joined the queue,
+    // and snapshots that were taken while one was queued.
+    int emptied = 0, queued = 0, met = 0;
 };
 
 // Feeds as many drawn messages to both. Says where they first differ, in an answer or in what they then hold, or nothing.

@@ -1,7 +1,7 @@
 // bench time DICTIONARY ROUNDS: the time of one call, the proved code beside its peers on the same bytes in the same run.
 // bench count DICTIONARY [FEW]: the same calls once each, for callgrind to count their instructions; with FEW, of few cases.
 // bench agree: whether the plain reader in C answers what the proved code does; says how often each answer came, and what the ends of
-// loops brought.
+// loops and empty books of all instruments brought.
 // bench recordings: whether it finds the same pieces in each recording; says what the recordings hold.
 // `time` writes a table of tab-separated columns; a call of `count` is named in callgrind's own file by the same columns.
 #include <algorithm>
@@ -30,6 +30,7 @@ constexpr int ENTRIES_A_ROUND = 1024;
 constexpr int QUEUE = 256;         // entries that fill the queue
 constexpr int CALLS_A_ROUND = 256; // of a call that takes no stream
 constexpr int ENDS_A_ROUND = 4;    // ends of loops, each on a store of its own: so few that a usual second-level cache holds them
+constexpr int EMPTIES_A_ROUND = 4; // messages that empty all books, likewise
 constexpr size_t COPIES = 31;      // of a store, at places of their own in memory; a round takes two, so all have their turn
 constexpr int AGREED = 10000;      // messages that both readers are asked, a depth kind
 
@@ -196,6 +197,14 @@ void check_books(const Case &c, const Start &s, Store store, plain_board plain, 
     }
     check_same(c, store, "QuickFIX's board", seen(board, c.depth));
     check_same(c, store, "the plain board", seen(plain));
+}
+
+// All must be Live with an empty book in both.
+void check_emptied(const Case &c, const Store &store, const plain_board &plain) {
+    const SeenBoard board = seen(plain);
+    for (const SeenBook &book : board.books)
+        if (book.waiting || !book.sides[0].empty() || !book.sides[1].empty()) fail("a book is not emptied");
+    check_same(c, store, "the plain board", board);
 }
 
 // Whether the scan finds the store sound: every call on a store scans it before all else, and a state that is given no room is
@@ -370,6 +379,23 @@ Store filled_store(Depth depth, const Stream &stream) {
     return filled(store, stream);
 }
 
+// A message with one empty book of all instruments, where all 16 are Live and hold 640 places: all 32 sides are emptied.
+void measure_empties(Depth depth, const Measure &measure) {
+    const Case c = {depth, 0, 0};
+    const Stream stream = make_stream(depth, 0, 1);
+    const std::string x = make_empty(1);
+    Each<Store> stores(filled_store(depth, stream), EMPTIES_A_ROUND);
+    Each<plain_board> plains(filled(opened(depth, stream.ids), stream), EMPTIES_A_ROUND);
+    std::vector<Measured> all = {
+        {columns(c, x.size(), "empty all"), EMPTIES_A_ROUND, [&] { stores.put_back(); },
+         for_each(stores, [&](Store &store) { return feed(store, x) == SELKAVORN_DONE; }), {}},
+        {columns(c, x.size(), "plain empty all"), EMPTIES_A_ROUND, [&] { plains.put_back(); },
+         for_each(plains, [&](plain_board &board) { return feed(board, x) == SELKAVORN_DONE; }), {}},
+    };
+    measure(all);
+    for (size_t i = 0; i < stores.size(); i++) check_emptied(c, stores[i], plains[i]);
+}
+
 // Feeding entries whose prices have 9 digits and 8 decimals. QuickFIX's board holds a price as a double, which has too few digits for
 // them, so it has no row.
 void measure_prices(Depth depth, const Measure &measure) {
@@ -510,8 +536,8 @@ void count_all(std::vector<Measured> &all) {
     }
 }
 
-// Fails where the plain reader answers or holds something else, or where an answer never came or the ends of loops brought too little;
-// prints the messages by answer, and the instruments by what the ends of loops brought them.
+// Fails where the plain reader answers or holds something else, or where an answer never came, or the ends of loops or empty books of all
+// instruments brought too little; prints the messages by answer, and what those brought.
 void agree() {
     for (Depth depth : {ORDER_DEPTH, PRICE_DEPTH}) {
         Brought brought;
@@ -520,9 +546,11 @@ void agree() {
         for (uint64_t answer = 0; answer <= SELKAVORN_FIELDS; answer++)
             if (brought.answers[answer] == 0) fail("no message was answered " + std::to_string(answer));
         if (brought.empty == 0 || brought.replayed == 0 || brought.broke == 0) fail("the ends of loops brought too little");
+        if (brought.emptied == 0 || brought.queued == 0 || brought.met == 0) fail("empty books of all instruments brought too little");
         for (const auto &counted : brought.answers)
             std::printf("%d\t%d\t%d\n", depth, static_cast<int>(counted.first), counted.second);
         std::printf("%d\tends of loops\t%d\t%d\t%d\n", depth, brought.empty, brought.replayed, brought.broke);
+        std::printf("%d\tempty books of all\t%d\t%d\t%d\n", depth, brought.emptied, brought.queued, brought.met);
     }
 }
 
@@ -579,6 +607,7 @@ int main(int argc, char **argv) {
         measure_others(depth, dictionary, measure);
         measure_prices(depth, measure);
         measure_loops(depth, measure);
+        measure_empties(depth, measure);
     }
     measure_scans(measure);
     measure_recordings(count ? COUNTED_BYTES : RECORDED_BYTES, dictionary, seldom);

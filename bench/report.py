@@ -37,6 +37,8 @@ OTHER_ROWS = (("open", "open, 16 instruments"), ("snapshot", "feed, a snapshot o
               ("plain long prices", "the same, plain C reader"),
               ("loop end", "feed, a snapshot of 40 entries that ends a loop, 15 others go Live, {bytes:,} bytes"),
               ("plain loop end", "the same, plain C reader"), ("loop goes on", "feed, the same where the loop goes on"),
+              ("empty all", "feed, an empty book of all 16 instruments, 640 places, {bytes:,} bytes"),
+              ("plain empty all", "the same, plain C reader"),
               ("quote", "quote"), ("sell", "sell, 1 unit"), ("sell, 20 places", "sell, 20 places"), ("write", "write, 40 places"),
               ("state", "state"), ("board", "board"))
 SCAN_ROWS = (("scan", "scan, order ids of 10 bytes"), ("mixed scan", "scan, order ids of 5 and of 10 bytes"),
@@ -71,8 +73,8 @@ NOTES = """\
   of the quotes and each byte of the snapshots is what the peers hold. One that waited takes its snapshot first, so that the
   queue is compared too. Before anything is timed, the plain reader is asked 20,000 messages, many lost, repeated or harmed: it
   must give the same answer to each, every answer of a feed must come, and the books must stay the same. Whole loops must come too,
-  whose ends make instruments Live with an empty book, make them Live with places, and break them. The run fails where anything
-  differs.
+  whose ends make instruments Live with an empty book, make them Live with places, and break them; and empty books of all
+  instruments, which empty Live books, join the queue, and are in it when snapshots are taken. The run fails where anything differs.
 - A snapshot of 40 entries is one of a loop of 16 that names all 16 instruments, so that the end of the loop brings nothing: all 16 wait
   before the first, nothing is heard, and none waits after the last. Where 15 others go Live, the loop has two snapshots: the first is of
   an instrument that is not followed, the second is timed. Before it all 16 wait, and the queue holds 256 entries, drawn evenly over
@@ -80,6 +82,10 @@ NOTES = """\
   replayed, and the queue is let go. The four calls of a round have a store each, which is put back before the round; that is not timed.
   Where the loop goes on, the same snapshot is the second of three, and the 15 still wait: the difference is what the end takes.
   QuickFIX's board has neither loops nor a queue, so it has no row; with the plain board all books are compared.
+- An empty book of all 16 instruments is an X with one J without 48. Each of them is Live with 20 bids and 20 offers, so that one entry
+  empties 32 sides, which is the most that an entry does. The four calls of a round have a store each, as at the end of a loop. The
+  proved code sets the numbers of the places to 0; the plain reader sets 32 counts to 0 and leaves the places. QuickFIX's board has no
+  such entry, so it has no row; with the plain board all books are compared, and must be empty.
 - Prices have 3 digits and 2 decimals. Where they have 9 digits and 8 decimals, half are below 0, and all else of the stream is drawn
   alike: beside the feed of 10 entries it shows what longer prices take. They are less than 700,000,000 from 0. Where a store holds
   prices that are farther from 0 than 720,575,940, the scan may have to test place by place. The scan of prices of 900,000,000 and more

@@ -151,6 +151,13 @@ static void say_all(int number, int action)
     }
 }
 
+/* An X of empty books of all instruments. */
+static void say_empties(int number, int entries)
+{
+    say("35=X|34=%d|52=" NOW "|268=%d|", number, entries);
+    for (int i = 0; i < entries; i++) say("279=0|269=J|");
+}
+
 /* A W of 20 bids and 20 offers, with this 34 and 911. */
 static void say_w_in_loop(int id, int s, int number, int reports)
 {
@@ -308,6 +315,33 @@ static void show_loops(void)
     show_waiting("a snapshot that ends a loop, 15 others go Live without a replay", SELKAVORN_TAKEN, 0);
 }
 
+/* Empty books of all instruments on a store of 16 that are all Live with 40 places each; and in the queue, where all wait. */
+static void show_empties(void)
+{
+    followed = SELKAVORN_MOST_INSTRUMENTS;
+    show("open", open_store, "16 instruments", SELKAVORN_DONE);
+    for (int i = 0; i < SELKAVORN_MOST_INSTRUMENTS; i++) {
+        say_w_in_loop(FIRST_ID + i, 0, 2, 2);
+        show_waiting("a snapshot of 40", SELKAVORN_TAKEN, (uint64_t)(SELKAVORN_MOST_INSTRUMENTS - 1 - i));
+    }
+    say_empties(1, 1);
+    show_waiting("an empty book of all, 640 places", SELKAVORN_DONE, 0);
+    say_all(2, 0);
+    show_waiting("an X of 64 news", SELKAVORN_DONE, 0);
+    say_empties(3, MOST_ENTRIES);
+    show_waiting("64 empty books of all", SELKAVORN_DONE, 0);
+    say_empties(5, MOST_ENTRIES);
+    show_waiting("a gap with 64 empty books of all", SELKAVORN_GAP, SELKAVORN_MOST_INSTRUMENTS);
+    for (int number = 6; number <= 8; number++) {
+        say_empties(number, MOST_ENTRIES);
+        show_waiting("64 empty books of all that join the queue", SELKAVORN_DONE, SELKAVORN_MOST_INSTRUMENTS);
+    }
+    say_w_in_loop(OTHER_ID, 4, 1, 2);
+    show_waiting("a snapshot that begins a loop", SELKAVORN_SNAPSHOT_UNFOLLOWED, SELKAVORN_MOST_INSTRUMENTS);
+    say_w_in_loop(FIRST_ID, 4, 2, 2);
+    show_waiting("a snapshot that ends a loop, replays of 256 empty books of all", SELKAVORN_TAKEN, 0);
+}
+
 /* Lots of one instrument with 20 places on both sides: all of them taken, and refusals, a quote's and those of a lot alone. */
 static void show_lots(void)
 {
@@ -357,6 +391,7 @@ int main(void)
     show_one_followed();
     show_all_followed();
     show_loops();
+    show_empties();
     show_lots();
     show_recordings();
     return 0;

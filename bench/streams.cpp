@@ -131,6 +131,16 @@ Stream make_stream(Depth depth, int messages, int entries, Ids ids, Prices price
     return stream;
 }
 
+std::vector<std::string> empty_of_all(unsigned action) { return {field(279, std::to_string(action)), field(269, "J")}; }
+
+std::string make_empty(int number) {
+    Draw draw;
+    return changes(number, 1, draw, [] {
+        const std::vector<std::string> fields = empty_of_all(NEW);
+        return fields[0] + fields[1];
+    });
+}
+
 Loop make_loop(Depth depth, int messages, int entries, int reports) {
     const Kind kind = {depth, LONG_IDS, SHORT_PRICES};
     Draw draw;

@@ -55,6 +55,12 @@ std::string message(char type, const std::string &fields);
 // change or a delete, at one of 19 a change or a new, each as often as the other, so that sides hold 19 or 20.
 Stream make_stream(Depth depth, int messages, int entries, Ids ids = LONG_IDS, Prices prices = SHORT_PRICES);
 
+// An empty book (J) of all instruments: the two fields of its entry.
+std::vector<std::string> empty_of_all(unsigned action);
+
+// An X with that number and one entry, an empty book of all instruments.
+std::string make_empty(int number);
+
 // `messages` X of `entries` entries each, and a loop of `reports` snapshots. Instruments, sides and places are drawn evenly. At a side
 // without places an entry is a new, at a full one a change, else a change or a new, each as often as the other.
 Loop make_loop(Depth depth, int messages, int entries, int reports);

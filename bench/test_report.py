@@ -10,9 +10,9 @@ from results import EVEN, MIXED, SCANS, STARTS, STATES, Case, Recording, Run, ca
 
 WHATS = ("feed", "scan", "loop", "plain", "parse", "validate", "book")
 OTHERS = ("open", "snapshot", "plain snapshot", "QuickFIX snapshot", "long prices", "plain long prices", "loop end", "plain loop end",
-          "loop goes on", "quote", "sell", "sell, 20 places", "write", "state")
+          "loop goes on", "empty all", "plain empty all", "quote", "sell", "sell, 20 places", "write", "state")
 SCAN_WHATS = ("scan", "mixed scan", "far scan", "loop", "plain loop", "scalar loop")
-BYTES = {"loop end": 172, "long prices": 173}  # of a message; all others have 171
+BYTES = {"loop end": 172, "long prices": 173, "empty all": 174}  # of a message; all others have 171
 HEADERS = pathlib.Path(__file__).resolve().parent.parent / "include"
 
 
@@ -95,6 +95,15 @@ class Report(unittest.TestCase):
                          [["price depth: feed, a snapshot of 40 entries that ends a loop, 15 others go Live, 172 bytes", "130"],
                           ["price depth: the same, plain C reader", "120"],
                           ["price depth: feed, the same where the loop goes on", "110"]])
+
+    def test_empty_books_have_rows_behind_the_loop(self):
+        empties = {"empty all": 130.0, "plain empty all": 120.0}
+        text = "\n".join(page("v1", [made(changed={(Case("price", 0, 0), what): [ns] * 3 for what, ns in empties.items()})]))
+        rows = [[cell.strip() for cell in line.split("|")[1:3]] for line in text.splitlines()]
+        at = rows.index(["price depth: feed, the same where the loop goes on", "100"])
+        self.assertEqual(rows[at + 1:at + 3],
+                         [["price depth: feed, an empty book of all 16 instruments, 640 places, 174 bytes", "130"],
+                          ["price depth: the same, plain C reader", "120"]])
 
     def test_long_prices_have_rows_behind_the_snapshot(self):
         prices = {"long prices": 130.0, "plain long prices": 120.0}
