@@ -161,9 +161,9 @@ extern "C" {
  * program that was right may have to change, the second when something is added.
  *
  * From 3.0 to 3.1
- *   A J without 48, 22 and 207 is read, and empties every book at that point of its message; it was
- *   14. One without 48 that has 22 or 207 still is.
- *   A store of 3.0 is read as it stands. One whose queue holds such a J is 17 to 3.0.
+ *   A J without 48, 22 and 207 is read, and empties every book at that point of its message; before
+ *   it was 14. One without 48 that has 22 or 207 is 14 as before.
+ *   A store of 3.0 is read by 3.1. A store whose queue holds such a J is 17 to 3.0.
  *
  * From 2.0 to 3.0
  *   Compile anew: code built with the 2.0 header takes prices and sums for ten times what they are.
