@@ -1,7 +1,7 @@
 -- An empty book for the whole channel (document 02, K4): what J without an instrument does, and a morning on which it comes.
 use mathlib.Core.Path.{_≡_}
 use mathlib.Core.Bool.{true, false, cond}
-use mathlib.Core.List.{List, [], _∷_, map}
+use mathlib.Core.List.{List, [], _∷_, _++_, map}
 use Prim.Native.Nat.{ℕ, _≤_, _<_}
 use lib.ListN.{length, take}
 use Rattle.book.specs.Rules.{empty, forAll}
@@ -11,15 +11,20 @@ use Rattle.message.specs.Message.{Message, numbered, snapshot}
 use Rattle.board.specs.Board.{Inst, Queued, Board, opened, withInsts}
 use Rattle.board.specs.Count.{aimed, joining, give}
 use Rattle.board.specs.Snapshot.{after}
+use Rattle.board.specs.Feed.{feed}
 use Rattle.board.specs.Calls.{Call, fed, calls, answers, Throughout, inst, Live, mine}
 use Rattle.board.specs.Demand.{NumberedFromOne, NeverBreaks, Right}
 use Rattle.board.specs.Sound.{opens}
 use Rattle.board.specs.Laws.{InRange}
 use Rattle.board.specs.Loss.{order, newBid}
 
--- An instrument whose book is emptied at that point of the message: one that is Waiting, as one that broke before it, stays as it is.
+-- An instrument with an empty book, and one that is Live so emptied at that point of the message: one that is Waiting, as one that broke
+-- before it, stays as it is.
+abbrev pub bare : Inst → Inst
+bare x = record { id = x .id; waiting = x .waiting; reason = x .reason; book = empty }
+
 abbrev pub emptied : Inst → Inst
-emptied x = cond (x .waiting) x (record { id = x .id; waiting = x .waiting; reason = x .reason; book = empty })
+emptied x = cond (x .waiting) x (bare x)
 
 -- For any entry u for all.
 pub record SpeaksOfAll (u : Update) : Type 0 where
@@ -36,6 +41,12 @@ pub record SpeaksOfAll (u : Update) : Type 0 where
 
 abbrev pub ForAllSpeaksOfAll : Type 0
 ForAllSpeaksOfAll = (u : Update) → forAll u ≡ true → SpeaksOfAll u
+
+-- So where a counted message ends with one, the book of each instrument that is Live behind it is empty.
+abbrev pub EndsEmpty : Type 0
+EndsEmpty =
+    (d n heard : ℕ) (us : List Update) (u : Update) (b : Board) → forAll u ≡ true → b .H < n
+    → Live d (feed (numbered n heard (us ++ u ∷ [])) b .board) → inst d (feed (numbered n heard (us ++ u ∷ [])) b .board) .book ≡ empty
 
 -- J for all, as it is read.
 abbrev pub allEmpty : Update

@@ -1,5 +1,6 @@
 pub mod Recovery
 pub mod Loops
+pub mod ForAll
 pub mod Hut
 pub mod Marked
 pub mod Heard

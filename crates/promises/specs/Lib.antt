@@ -1,6 +1,7 @@
 pub mod Acts
 pub mod Recovery
 pub mod Loops
+pub mod ForAll
 pub mod Hut
 pub mod Marked
 pub mod Quotes

@@ -13,14 +13,14 @@ use Rattle.chain.specs.Bytes.{fieldBytes, bytesOf}
 use Rattle.frame.specs.Frames.{frameOf, bodyOf}
 use Rattle.tags.specs.Tags.{has, stands, tidy, upTo, past, parts, allTidy, lookup}
 use Rattle.values.specs.Values.{bvmf, instrumentOf, sortOf, byOf, momentIn, valuesOf}
-use Rattle.entries.specs.Entries.{bookEntry, entryInX, shownEntry, entryInW}
+use Rattle.entries.specs.Entries.{bookEntry, emptyAll, emptyBook, entryInX, shownEntry, entryInW}
 use Rattle.message.specs.Message.{snapshot, refused}
 use Rattle.message.specs.declared.Refusal.the-variants.{BadFields}
 use Rattle.group.specs.Groups.{groupOf, each, running}
 use Rattle.lead.specs.Messages.{changesOf, headOf, snapshotOf, orBadFields, typedAs}
 use Rattle.fields.specs.Messages.{messageIn}
-use Rattle.samples.specs.Messages.{empty-book, point-alone, too-many-decimals, eight-decimals, first, second, third, at-1, at-2, at-4, one-of-two, two-of-two, fourth}
-use Rattle.samples.specs.Says.{bid-1, bid-2, eight-says, first-says, second-says, third-says, shows, one-says, two-says, fourth-says}
+use Rattle.samples.specs.Messages.{empty-book, point-alone, too-many-decimals, eight-decimals, first, second, third, at-1, at-2, at-4, one-of-two, two-of-two, fourth, all-empty, all-empty-22, all-empty-207, bid-without-48}
+use Rattle.samples.specs.Says.{bid-1, bid-2, eight-says, first-says, second-says, third-says, shows, one-says, two-says, fourth-says, all-says}
 
 -- the message has 110 bytes and says an empty book
 pub sized : length empty-book ≡ 110
@@ -80,3 +80,20 @@ says-two-of-two = refl
 pub says-fourth : messageIn 0 fourth ≡ fourth-says
 unfolding messageIn typedAs orBadFields changesOf snapshotOf headOf groupOf each running frameOf bodyOf fieldsOf cut fieldOf rangedOf wholeOf digitsOf bytesOf fieldBytes decimal widthOf widthTo fixed tidy upTo past parts allTidy lookup has stands momentOf dateOf timeOf clockOf minutesOf twoOf isDate dayOf leap months daysIn daysTo yearDays daysBefore instrumentOf bvmf entryInX bookEntry entryInW shownEntry valuesOf sortOf priceOf amountOf fractionOf byOf idOf isId momentIn
 says-fourth = refl
+
+-- ---- J without 48
+pub says-all-empty : messageIn 0 all-empty ≡ all-says
+unfolding messageIn typedAs orBadFields changesOf groupOf each frameOf bodyOf fieldsOf cut fieldOf rangedOf wholeOf digitsOf bytesOf fieldBytes decimal widthOf widthTo fixed tidy upTo past parts allTidy lookup has stands momentOf dateOf timeOf clockOf minutesOf twoOf isDate dayOf leap months daysIn daysTo yearDays daysBefore instrumentOf bvmf entryInX bookEntry emptyBook emptyAll valuesOf sortOf priceOf amountOf fractionOf
+says-all-empty = refl
+
+pub bad-with-22 : messageIn 0 all-empty-22 ≡ refused BadFields
+unfolding messageIn typedAs orBadFields changesOf groupOf each frameOf bodyOf fieldsOf cut fieldOf rangedOf wholeOf digitsOf bytesOf fieldBytes decimal widthOf widthTo fixed tidy upTo past parts allTidy lookup has stands momentOf dateOf timeOf clockOf minutesOf twoOf isDate dayOf leap months daysIn daysTo yearDays daysBefore instrumentOf bvmf entryInX bookEntry emptyBook emptyAll valuesOf sortOf priceOf amountOf fractionOf
+bad-with-22 = refl
+
+pub bad-with-207 : messageIn 0 all-empty-207 ≡ refused BadFields
+unfolding messageIn typedAs orBadFields changesOf groupOf each frameOf bodyOf fieldsOf cut fieldOf rangedOf wholeOf digitsOf bytesOf fieldBytes decimal widthOf widthTo fixed tidy upTo past parts allTidy lookup has stands momentOf dateOf timeOf clockOf minutesOf twoOf isDate dayOf leap months daysIn daysTo yearDays daysBefore instrumentOf bvmf entryInX bookEntry emptyBook emptyAll valuesOf sortOf priceOf amountOf fractionOf
+bad-with-207 = refl
+
+pub bad-bid-without-48 : messageIn 0 bid-without-48 ≡ refused BadFields
+unfolding messageIn typedAs orBadFields changesOf groupOf each frameOf bodyOf fieldsOf cut fieldOf rangedOf wholeOf digitsOf bytesOf fieldBytes decimal widthOf widthTo fixed tidy upTo past parts allTidy lookup has stands momentOf dateOf timeOf clockOf minutesOf twoOf isDate dayOf leap months daysIn daysTo yearDays daysBefore instrumentOf bvmf entryInX bookEntry emptyBook emptyAll valuesOf sortOf priceOf amountOf fractionOf
+bad-bid-without-48 = refl

@@ -4,6 +4,7 @@ use Prim.Native.Nat.{ℕ}
 use lib.IntN.{pos}
 use Rattle.price.specs.Price.{hundredths}
 use Rattle.book.specs.declared.Entry.{Entry}
+use Rattle.book.specs.Sides.{noEntry}
 use Rattle.message.specs.Message.{Message, numbered, snapshot}
 
 -- The bid of message 1 (24.01 for 5), the bid that message 2 changes it to (24.02), and the offer of message 3 (24.05 for 7).
@@ -49,3 +50,7 @@ bid-4 = record { price = hundredths 95; size = 6; by = 3307; more = 0; moment = 
 
 abbrev pub fourth-says : Message
 fourth-says = numbered 4 64968180543000 (record { who = 9; what = 0; action = 0; place = 1; entry = bid-4 } ∷ [])
+
+-- Message 3 of another stream empties the books of all instruments.
+abbrev pub all-says : Message
+all-says = numbered 3 64968180542000 (record { who = 0; what = 3; action = 0; place = 0; entry = noEntry } ∷ [])
