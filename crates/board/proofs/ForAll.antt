@@ -7,7 +7,7 @@ use native.Mathlib.Omega.{arith}
 use lib.Dec.{eqb, ltb}
 use lib.ListN.{length, set, List·getD-map}
 use borrow.Author.Tests.{eqb-true, lt-ltb, le-ltb}
-use Rattle.book.specs.Rules.{Lists, empty, Outcome, leaves, forAll, applied, afterAction, afterNew}
+use Rattle.book.specs.Rules.{Lists, empty, Outcome, leaves, emptyOfAll, forAll, applied, afterAction, afterNew}
 use Rattle.book.specs.declared.Update.{Update}
 use Rattle.message.specs.Message.{numbered}
 use Rattle.board.specs.Board.{Inst, Queued, Board, anyWaiting, look, speaksOf, noInst, at, withInsts, settled}
@@ -29,7 +29,7 @@ module _ (u : Update) (all : forAll u ≡ true) where
   -- it is neither a bid nor an offer
   empties-book : (b : Lists) → applied b u ≡ leaves empty
   unfolding applied
-  empties-book b = rw (eqb-true (u .what) 3 all)
+  empties-book b = rw (eqb-true (u .what) emptyOfAll all)
 
   hit-empties : (x : Inst) → hit u x ≡ emptied x
   unfolding hit

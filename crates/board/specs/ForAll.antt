@@ -4,7 +4,7 @@ use mathlib.Core.Bool.{true, false, cond}
 use mathlib.Core.List.{List, [], _∷_, _++_, map}
 use Prim.Native.Nat.{ℕ, _≤_, _<_}
 use lib.ListN.{length, take}
-use Rattle.book.specs.Rules.{empty, forAll}
+use Rattle.book.specs.Rules.{empty, emptyOfAll, forAll}
 use Rattle.book.specs.declared.Update.{Update}
 use Rattle.book.specs.Sides.{noEntry}
 use Rattle.message.specs.Message.{Message, numbered, snapshot}
@@ -50,7 +50,7 @@ EndsEmpty =
 
 -- J for all, as it is read.
 abbrev pub allEmpty : Update
-allEmpty = record { who = 0; what = 3; action = 0; place = 0; entry = noEntry }
+allEmpty = record { who = 0; what = emptyOfAll; action = 0; place = 0; entry = noEntry }
 
 -- Bids for 7 and 9; then the channel's books are emptied, in a message of which no other entry is for an instrument that is followed;
 -- then a bid for 7, a second J and another bid for 7; then a bid for 9.

@@ -59,7 +59,7 @@ entryFine depth e =
 unfoldable pub noneFine : Entry → Bool
 noneFine e = eqb (natAbs (e .price)) 0 && (eqb (e .size) 0 && (eqb (e .by) 0 && (eqb (e .more) 0 && eqb (e .moment) 0)))
 
--- J of one instrument (2), or for all (3), and then it names none.
+-- J of one instrument (2), or for all, and then it names none.
 abbrev pub emptyFine : Update → Bool
 emptyFine u = eqb (u .what) 2 || (forAll u && eqb (u .who) 0)
 

@@ -85,11 +85,18 @@ abbrev pub withOffers : Lists → Outcome (List Entry) → Outcome Lists
 withOffers b (leaves l) = leaves (record { bids = b .bids; offers = l })
 withOffers b (breach r) = breach r
 
--- An entry for all instruments of the channel (document 02, K4): J without an instrument, which has a number of its own.
-abbrev pub forAll : Update → Bool
-forAll u = eqb (u .what) 3
+-- What an entry is of: a bid (0), an offer (1), the empty book of one instrument (2), or that of all instruments of the channel, which is J
+-- without an instrument (document 02, K4).
+abbrev pub emptyOfAll : ℕ
+emptyOfAll = 3
 
--- One entry on a book: 0 works the bids, 1 the offers, and any other is J, of one instrument (2) or for all (3), which empties both sides.
+abbrev pub isForAll : ℕ → Bool
+isForAll what = eqb what emptyOfAll
+
+abbrev pub forAll : Update → Bool
+forAll u = isForAll (u .what)
+
+-- One entry on a book: 0 works the bids, 1 the offers, and any other is J, of one instrument or for all, which empties both sides.
 unfoldable pub applied : Lists → Update → Outcome Lists
 applied b u =
     cond (eqb (u .what) 0) (withBids b (afterAction (b .bids) (u .action) (u .place) (u .entry)))

@@ -97,7 +97,7 @@ bidsDone b d = record { book = record { bids = d .side; offers = b .offers }; re
 abbrev pub offersDone : Book → Done → Turn
 offersDone b d = record { book = record { bids = b .bids; offers = d .side }; reason = d .reason }
 
--- One entry on a book: 0 works the bids, 1 the offers, and any other is J, of one instrument (2) or for all (3), which empties both sides.
+-- One entry on a book: 0 works the bids, 1 the offers, and any other is J, of one instrument or for all, which empties both sides.
 unfoldable pub bookStep : Book → Update → Turn
 bookStep b u =
     cond (eqb (u .what) 0) (bidsDone b (sideStep (b .bids) (u .action) (u .place) (u .entry)))

@@ -5,7 +5,7 @@ use Prim.Native.Nat.{ℕ, _≤_, _<_}
 use lib.Dec.{leb, eqb}
 use borrow.Author.Tests.{eq-eqb, ne-eqb, le-leb, lt-leb}
 use Rattle.book.specs.declared.Update.{Update}
-use Rattle.book.specs.Rules.{forAll}
+use Rattle.book.specs.Rules.{emptyOfAll}
 use Rattle.heading.specs.Marks.{marked}
 use Rattle.store.specs.Meaning.{State, st}
 use Rattle.deliver.specs.Gives.{Taken, applyS, breakS, landS, giveToS, giveEachS, giveS}
@@ -38,14 +38,14 @@ module _ (u : Update) (s : State) where
   abbrev for : Bool → State
   for all = cond all (giveEachS (s .head .followed) u s) (named (leb (s .head .followed) (u .who)))
 
-  pub for-all : u .what ≡ 3 → giveEachS (s .head .followed) u s ≡ giveS u s
+  pub for-all : u .what ≡ emptyOfAll → giveEachS (s .head .followed) u s ≡ giveS u s
   unfolding giveS
-  for-all e = sym (ap for (eq-eqb (u .what) 3 e))
+  for-all e = sym (ap for (eq-eqb (u .what) emptyOfAll e))
 
-  module _ (one : u .what ≡ 3 → ⊥) where
+  module _ (one : u .what ≡ emptyOfAll → ⊥) where
     by-name : (past : Bool) → leb (s .head .followed) (u .who) ≡ past → named past ≡ giveS u s
     unfolding giveS
-    by-name past e = sym (ap named e) ∙ sym (ap for (ne-eqb (u .what) 3 one))
+    by-name past e = sym (ap named e) ∙ sym (ap for (ne-eqb (u .what) emptyOfAll one))
 
     pub for-none : s .head .followed ≤ u .who → s ≡ giveS u s
     for-none l = by-name true (le-leb _ _ l)

@@ -3,6 +3,7 @@ use mathlib.Core.Path.{_≡_, sym, ap, _∙_}
 use mathlib.Core.Bool.{Bool, true, false, cond, _&&_}
 use mathlib.Core.Option.{none}
 use Prim.Native.Nat.{ℕ}
+use Rattle.book.specs.Rules.{emptyOfAll}
 use Rattle.digits.specs.declared.Number.{Number}
 use Rattle.digits.specs.declared.Number.the-variants.{Is, No}
 use Rattle.values.specs.Values.{_>>=_, need, Values, number, instrumentOf}
@@ -12,7 +13,7 @@ use Rattle.entries.specs.declared.Said.{Said}
 module _ (v : Values) where
   -- without 48: 22 stands, or 207 does, or neither
   abbrev all-by : Bool → Bool → Said
-  all-by a b = said (need (a && b) (empties 0 3))
+  all-by a b = said (need (a && b) (empties 0 emptyOfAll))
 
   pub has-source : absent 22 v ≡ false → said none ≡ said (emptyAll v)
   unfolding emptyAll
@@ -22,7 +23,7 @@ module _ (v : Values) where
   unfolding emptyAll
   has-market e f = sym (ap (λ (a : Bool). all-by a (absent 207 v)) e ∙ ap (all-by true) f)
 
-  pub has-neither : absent 22 v ≡ true → absent 207 v ≡ true → said (empties 0 3) ≡ said (emptyAll v)
+  pub has-neither : absent 22 v ≡ true → absent 207 v ≡ true → said (empties 0 emptyOfAll) ≡ said (emptyAll v)
   unfolding emptyAll
   has-neither e f = sym (ap (λ (a : Bool). all-by a (absent 207 v)) e ∙ ap (all-by true) f)
 

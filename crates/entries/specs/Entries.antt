@@ -5,6 +5,7 @@ use mathlib.Core.Option.{Option, none, some}
 use lib.Dec.{leb, eqb}
 use lib.ListN.{length}
 use Rattle.book.specs.declared.Update.{Update}
+use Rattle.book.specs.Rules.{emptyOfAll}
 use Rattle.book.specs.Sides.{noEntry}
 use Rattle.values.specs.Values.{_>>=_, need, Values, instrumentAt, actionAt, sortAt, placeAt, valuesOf}
 use Rattle.entries.specs.declared.Said.{Said}
@@ -34,7 +35,7 @@ absent t v = eqb (length (v t)) 0
 
 -- J without 48 is for all instruments (document 02, K4): 22 and 207 must then be absent.
 unfoldable pub emptyAll : Values → Option (Option Update)
-emptyAll v = need (absent 22 v && absent 207 v) (empties 0 3)
+emptyAll v = need (absent 22 v && absent 207 v) (empties 0 emptyOfAll)
 
 -- J with 48 needs 22.
 unfoldable pub emptyBook : Values → Option (Option Update)

@@ -23,6 +23,7 @@ use Rattle.orderid.specs.declared.OrderId.{OrderId}
 use Rattle.orderid.proofs.Back.{read-sound}
 use Rattle.book.specs.declared.Entry.{Entry}
 use Rattle.book.specs.declared.Update.{Update}
+use Rattle.book.specs.Rules.{emptyOfAll, isForAll}
 use Rattle.book.specs.Sides.{noEntry}
 use Rattle.board.specs.Ranges.{within, mostId, mostSize, mostOrders, idFine, priceFine, sizeFine, momentFine, ordersFine, byFine, entryFine, noneFine, updateFine, shownFine, saidFine}
 use Rattle.values.specs.Values.{_>>=_, need, Values, number, wholeAt, actionAt, placeAt, sizeAt, heardAt, identified, bvmf, instrumentOf, instrumentAt, sortOf, sortAt, price, priceAt, By, orders, byOf, by, byAt, momentIn, momentAt, valuesOf}
@@ -130,7 +131,7 @@ book-okay depth side action v hs ha =
     bind (within 1 mostOrders) (okay (saidFine depth)) (placeAt v) _ (whole-okay 290 5 1 mostOrders v)
     (λ place hp. bind idFine (okay (saidFine depth)) (instrumentAt v) _ (instrument-okay v)
     (λ id hi. bind (fits (leb action 1)) (okay (saidFine depth)) (cond (leb action 1) (valuesOf depth v) (some noEntry)) _ (either (leb action 1))
-    (λ entry he. rw (hi, or-true (eqb side 3), hs, ha, hp) he)))
+    (λ entry he. rw (hi, or-true (isForAll side), hs, ha, hp) he)))
   where
     fits : Bool → Entry → Bool
     fits z e = cond z (entryFine depth e) (noneFine e)
@@ -143,7 +144,7 @@ empty-okay : (depth : ℕ) (v : Values) → okay (okay (saidFine depth)) (emptyB
 unfolding emptyBook emptyAll updateFine
 empty-okay depth v = go (absent 48 v) (absent 22 v && absent 207 v)
   where
-    go : (a z : Bool) → okay (okay (saidFine depth)) (cond a (need z (empties 0 3)) (instrumentAt v >>= λ id. empties id 2)) ≡ true
+    go : (a z : Bool) → okay (okay (saidFine depth)) (cond a (need z (empties 0 emptyOfAll)) (instrumentAt v >>= λ id. empties id 2)) ≡ true
     go true true = none-fine
     go true false = refl
     go false z = bind idFine (okay (saidFine depth)) (instrumentAt v) _ (instrument-okay v) (λ id hi. rw (hi, none-fine))

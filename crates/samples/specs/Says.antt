@@ -4,6 +4,7 @@ use Prim.Native.Nat.{ℕ}
 use lib.IntN.{pos}
 use Rattle.price.specs.Price.{hundredths}
 use Rattle.book.specs.declared.Entry.{Entry}
+use Rattle.book.specs.Rules.{emptyOfAll}
 use Rattle.book.specs.Sides.{noEntry}
 use Rattle.message.specs.Message.{Message, numbered, snapshot}
 
@@ -53,4 +54,4 @@ fourth-says = numbered 4 64968180543000 (record { who = 9; what = 0; action = 0;
 
 -- Message 3 of another stream empties the books of all instruments.
 abbrev pub all-says : Message
-all-says = numbered 3 64968180542000 (record { who = 0; what = 3; action = 0; place = 0; entry = noEntry } ∷ [])
+all-says = numbered 3 64968180542000 (record { who = 0; what = emptyOfAll; action = 0; place = 0; entry = noEntry } ∷ [])

@@ -5,6 +5,7 @@ use mathlib.Core.List.{List}
 use Prim.Native.Nat.{ℕ, zero, suc, _+_, _*_, _-_, _/_, _^_}
 use lib.Dec.{ltb, leb, eqb}
 use lib.ListN.{length, getD}
+use Rattle.book.specs.Rules.{isForAll}
 use Rattle.cells.specs.Cells.{tab}
 use Rattle.board.specs.Ranges.{within, mostNumber, idFine, momentFine}
 use Rattle.board.specs.Sound.{distinct}
@@ -68,9 +69,9 @@ booksScan most full xs =
 
 -- ---- the queue
 
--- J of one instrument (2), or for all (3), which is of none: its who is 0.
+-- J of one instrument (2), or for all, which names none: its who is 0.
 abbrev pub emptyScan : ℕ → ℕ → Bool
-emptyScan who what = eqb what 2 || (eqb what 3 && eqb who 0)
+emptyScan who what = eqb what 2 || (isForAll what && eqb who 0)
 
 -- The 9 numbers from `at` on: who, what, action, place and the entry, which is needed of a new or a change of a bid or an offer alone.
 unfoldable pub updateScan : ℕ → ℕ → List ℕ → ℕ → Bool

@@ -2,6 +2,7 @@
 use mathlib.Core.Bool.{Bool, cond, _&&_, _||_}
 use Prim.Native.Nat.{ℕ}
 use lib.Dec.{ltb, leb, eqb}
+use Rattle.book.specs.Rules.{isForAll}
 use Rattle.heading.specs.declared.Heading.{Heading}
 use Rattle.heading.specs.Marks.{marked}
 
@@ -10,6 +11,6 @@ unfoldable pub refusalOf : Heading → ℕ → ℕ → ℕ
 refusalOf h i S =
     cond (leb (h .followed) i) 5 (cond (marked (h .marks) i) (cond (ltb S (h .base)) 7 (cond (ltb (h .number) S) 8 0)) 6)
 
--- A queued entry is applied if it is for instrument i or for all (3), and numbered above S.
+-- A queued entry is applied if it is for all or for instrument i, and numbered above S.
 abbrev pub due : ℕ → ℕ → ℕ → ℕ → ℕ → Bool
-due i S who what n = (eqb what 3 || eqb who i) && ltb S n
+due i S who what n = (isForAll what || eqb who i) && ltb S n

@@ -2,6 +2,7 @@
 use mathlib.Core.Path.{_≡_, sym, ap, _∙_}
 use borrow.Author.Tests.{not-true, not-false}
 use borrow.Author.Needs.{needs}
+use Rattle.book.specs.Rules.{emptyOfAll}
 use Rattle.book.specs.declared.Entry.{Entry}
 use Rattle.tags.specs.Slots.{slotOf, marked}
 use Rattle.entries.specs.Entries.{said}
@@ -36,7 +37,7 @@ returns-3 : tie.Need-returns-3
 unfolding said marked slotOf
 returns-3 c =
     let a = c .before .before .before .before .before .before .args in
-    ap (λ (e : Entry). Said.Is (record { who = 0; what = 3; action = 0; place = 0; entry = e })) (c .no-entry .ensures)
+    ap (λ (e : Entry). Said.Is (record { who = 0; what = emptyOfAll; action = 0; place = 0; entry = e })) (c .no-entry .ensures)
     ∙ has-neither (marked (a .s .now) (a .m)) (sym (c .before .before .before .before .absent .ensures) ∙ not-false _ (c .before .before .before .if1 .left))
     (sym (c .before .before .absent2 .ensures) ∙ not-false _ (c .before .if2 .left))
 
