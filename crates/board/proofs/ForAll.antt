@@ -5,13 +5,13 @@ use mathlib.Core.List.{List, [], _∷_, _++_, map}
 use Prim.Native.Nat.{ℕ, _≤_, _<_}
 use native.Mathlib.Omega.{arith}
 use lib.Dec.{eqb, ltb}
-use lib.ListN.{length, set, List·getD-map}
+use lib.ListN.{length, set, length-map, List·getD-map}
 use borrow.Author.Tests.{eqb-true, lt-ltb, le-ltb}
 use Rattle.book.specs.Rules.{Lists, empty, Outcome, leaves, emptyOfAll, forAll, applied, afterAction, afterNew}
 use Rattle.book.specs.declared.Update.{Update}
 use Rattle.message.specs.Message.{numbered}
 use Rattle.board.specs.Board.{Inst, Queued, Board, anyWaiting, look, speaksOf, noInst, at, withInsts, settled}
-use Rattle.board.specs.Count.{aimed, joining, landed, hit, give, gives, counted, joined, count, cleared, number}
+use Rattle.board.specs.Count.{aimed, joining, landed, hit, give, gives, counted, joined, count, clear, cleared, number}
 use Rattle.board.specs.Snapshot.{entriesOf, run, after, take, snap}
 use Rattle.board.specs.Feed.{feed}
 use Rattle.board.specs.Calls.{mine}
@@ -19,9 +19,13 @@ use Rattle.board.specs.Demand.{bookAt}
 use Rattle.board.specs.Ranges.{entryFine, noneFine, updateFine, shownFine, headFine, messageFine}
 use Rattle.board.specs.Sound.{distinct}
 use Rattle.board.specs.Loss.{order}
-use Rattle.board.specs.ForAll.{bare, emptied, SpeaksOfAll, ForAllSpeaksOfAll, EndsEmpty, stream, received, Reset, broken, BrokenBefore}
+use Rattle.board.specs.ForAll.{bare, emptied, SpeaksOfAll, ForAllSpeaksOfAll, FromEmpty, stream, received, ChannelEmptied, breaks, BrokenBefore}
+use Rattle.board.proofs.Running.{run-to}
+use Rattle.board.proofs.Finding.{length-ids, mine-aimed}
+use Rattle.board.proofs.Giving.{hits, gives-ids, gives-at, live-before, live-ran}
 use Rattle.board.proofs.Cases.{count-is, number-is}
-use Rattle.board.proofs.Staying.{same-feed, same-look}
+use Rattle.board.proofs.Staying.{same-feed, same-length, same-look}
+use Rattle.board.proofs.Recovery.{live-followed}
 use Rattle.board.proofs.Others.{at-settled}
 use Rattle.board.proofs.Streams.{numbered-from-one, never-breaks}
 
@@ -76,9 +80,9 @@ module _ (u : Update) (all : forAll u ≡ true) where
 pub for-all-speaks-of-all : ForAllSpeaksOfAll
 for-all-speaks-of-all u all = speaks-of-all u all
 
--- One that is Live behind a message that ends with it has an empty book.
+-- Behind a message that has it, one that is Live has what the entries behind it make of an empty book.
 
--- it was Live, and is emptied
+-- an instrument that is Live once emptied has an empty book
 emptied-book : (x : Inst) → emptied x .waiting ≡ false → emptied x .book ≡ empty
 emptied-book x = go (x .waiting) refl
   where
@@ -86,52 +90,73 @@ emptied-book x = go (x .waiting) refl
     go true e l = absurd (true≢false (sym e ∙ l))
     go false e l = refl
 
-gives-last : (xs : List Inst) (us : List Update) (u : Update) (b : Board)
-    → gives (map (aimed xs) (us ++ u ∷ [])) b ≡ give (aimed xs u) (gives (map (aimed xs) us) b)
+-- what instruments get of a message: the entries before it, it, and those behind it
+gives-parts : (xs : List Inst) (us : List Update) (u : Update) (vs : List Update) (b : Board)
+    → gives (map (aimed xs) (us ++ u ∷ vs)) b ≡ gives (map (aimed xs) vs) (gives (aimed xs u ∷ []) (gives (map (aimed xs) us) b))
 unfolding gives
-gives-last xs [] u b = refl
-gives-last xs (v ∷ us) u b = gives-last xs us u (give (aimed xs v) b)
+gives-parts xs [] u vs b = refl
+gives-parts xs (v ∷ us) u vs b = gives-parts xs us u vs (give (aimed xs v) b)
 
-module _ (i n heard : ℕ) (xs : List Inst) (us : List Update) (u : Update) (all : forAll u ≡ true) where
-  vs : List Update
-  vs = map (aimed xs) (us ++ u ∷ [])
+gives-length : (us : List Update) (b : Board) → length (gives us b .insts) ≡ length (b .insts)
+gives-length us b = length-ids (gives us b .insts) (b .insts) (gives-ids us b)
+
+module _ (i n heard : ℕ) (xs : List Inst) (us : List Update) (u : Update) (vs : List Update) (all : forAll u ≡ true) where
+  ws : List Update
+  ws = map (aimed xs) (us ++ u ∷ vs)
 
   -- the instrument at index i
-  abbrev Bare : Board → Type 0
-  Bare b = at i b .waiting ≡ false → at i b .book ≡ empty
+  abbrev Built : Inst → Type 0
+  Built x = x .waiting ≡ false → run (mine i (map (aimed xs) vs)) empty ≡ leaves (x .book)
 
-  given-bare : (b : Board) → Bare (gives vs b)
-  unfolding vs
-  given-bare b =
+  given-built : (b : Board) → i < length (b .insts) → Built (at i (gives ws b))
+  unfolding ws gives
+  given-built b l =
       let c = gives (map (aimed xs) us) b in
-      let e : at i (gives vs b) ≡ emptied (at i c) =
-      ap (at i) (gives-last xs us u b ∙ gives-all (aimed xs u) all c) ∙ List·getD-map emptied (c .insts) i noInst in
-      subst (λ (x : Inst). x .waiting ≡ false → x .book ≡ empty) (sym e) (emptied-book (at i c))
+      let e = gives (aimed xs u ∷ []) c in
+      let own = mine i (map (aimed xs) vs) in
+      let inside : i < length (e .insts) = rw (gives-length (aimed xs u ∷ []) c, gives-length (map (aimed xs) us) b) l in
+      let p : at i e ≡ emptied (at i c) = ap (at i) (gives-all (aimed xs u) all c) ∙ List·getD-map emptied (c .insts) i noInst in
+      let q : at i (gives ws b) ≡ hits own (emptied (at i c)) =
+      ap (at i) (gives-parts xs us u vs b) ∙ gives-at (map (aimed xs) vs) i e inside ∙ ap (hits own) p in
+      subst Built (sym q)
+      (λ live.
+      let w = live-before own (emptied (at i c)) live in
+      subst (λ (k : Lists). run own k ≡ leaves (hits own (emptied (at i c)) .book)) (emptied-book (at i c) w) (live-ran own (emptied (at i c)) w live))
 
-  settled-bare : (w : Bool) (b : Board) → Bare (settled w (gives vs b))
-  settled-bare w b =
-      subst (λ (x : Inst). x .waiting ≡ false → x .book ≡ empty) (sym (at-settled i w (gives vs b) (gives vs b) refl)) (given-bare b)
+  settled-built : (w : Bool) (b : Board) → i < length (b .insts) → Built (at i (settled w (gives ws b)))
+  settled-built w b l = subst Built (sym (at-settled i w (gives ws b) (gives ws b) refl)) (given-built b l)
 
-  count-bare : (a : ℕ) (b : Board) → Bare (count a n heard vs b .board)
-  count-bare a b =
-      count-is (λ o. Bare (o .board)) a n heard vs b (λ _. settled-bare false (counted n heard b))
-      (λ over _. settled-bare true (joined over n vs (counted n heard b)))
+  count-built : (a : ℕ) (b : Board) → i < length (b .insts) → Built (at i (count a n heard ws b .board))
+  count-built a b l =
+      count-is (λ o. Built (at i (o .board))) a n heard ws b (λ _. settled-built false (counted n heard b) l) (λ over _. joins over)
+    where
+      joins : (over : Bool) → Built (at i (settled true (gives ws (joined over n ws (counted n heard b)))))
+      joins true = settled-built true (joined true n ws (counted n heard b)) l
+      joins false = settled-built true (joined false n ws (counted n heard b)) l
 
-  number-bare : (b : Board) → b .H < n → Bare (number n heard vs b .board)
-  number-bare b l =
-      number-is (λ o. Bare (o .board)) n heard vs b (λ _ old. absurd (omega (arith, old))) (λ _. count-bare 0 b) (λ _. count-bare 1 (cleared n b))
+  number-built : (b : Board) → b .H < n → i < length (b .insts) → Built (at i (number n heard ws b .board))
+  number-built b h l =
+      number-is (λ o. Built (at i (o .board))) n heard ws b (λ _ old. absurd (omega (arith, old))) (λ _. count-built 0 b l)
+      (λ _. count-built 1 (cleared n b) (rw (length-map (b .insts) clear) l))
 
-pub ends-empty : EndsEmpty
-unfolding feed vs
-ends-empty d n heard us u b all l =
-    let m = numbered n heard (us ++ u ∷ []) in
-    let i = look d (b .insts) in
-    subst (λ (k : ℕ). at k (feed m b .board) .waiting ≡ false → at k (feed m b .board) .book ≡ empty)
-    (sym (same-look d (feed m b .board) b (same-feed m b))) (number-bare i n heard (b .insts) us u all b l)
+pub from-empty : FromEmpty
+unfolding feed ws
+from-empty d n heard us u vs b all h live =
+    let m = numbered n heard (us ++ u ∷ vs) in
+    let c = feed m b .board in
+    let xs = b .insts in
+    let i = look d xs in
+    let s = same-feed m b in
+    let found : look d (c .insts) ≡ i = same-look d c b s in
+    let inside : i < length xs = rw (← found, ← (same-length c b s)) (live-followed d c live) in
+    sym (run-to i (mine d vs) empty)
+    ∙ ap (λ (w : List Update). run w empty) (sym (mine-aimed d xs inside vs))
+    ∙ subst (λ (k : ℕ). at k c .waiting ≡ false → run (mine i (map (aimed xs) vs)) empty ≡ leaves (at k c .book)) (sym found)
+    (number-built i n heard xs us u vs all b h inside) live
 
-pub reset : Reset
+pub channel-emptied : ChannelEmptied
 unfolding stream received bookAt mine run applied afterAction afterNew anyWaiting look joining hit give gives count number entriesOf after take snap feed distinct messageFine headFine updateFine shownFine entryFine noneFine
-reset =
+channel-emptied =
     record {
       numbers = numbered-from-one stream refl;
       never-7 = never-breaks stream 7 (record { bids = order 5 2402 ∷ []; offers = [] }) refl;
@@ -157,5 +182,5 @@ reset =
     }
 
 pub broken-before : BrokenBefore
-unfolding broken applied afterAction afterNew anyWaiting look joining hit give gives count number entriesOf run after take snap feed
+unfolding breaks applied afterAction afterNew anyWaiting look joining hit give gives count number entriesOf run after take snap feed
 broken-before = record { answered = refl; waits = refl; live = refl }

@@ -1,22 +1,22 @@
--- Entries with a 48 never touch another's instrument.
+-- Entries with a 48 never touch another instrument.
 use mathlib.Core.Path.{_≡_, refl, _∙_, ap, sym}
 use mathlib.Core.Bool.{Bool, true, false, cond, _||_}
 use mathlib.Core.List.{List, [], _∷_, map}
 use Prim.Native.Nat.{ℕ, _+_, _≤_, _<_}
 use native.Mathlib.Omega.{arith}
 use lib.Dec.{ltb, leb, eqb}
-use lib.ListN.{length, getD, List·getD-eq-default}
+use lib.ListN.{length, getD, length-map, List·getD-eq-default}
 use borrow.Author.Tests.{ltb-true, ltb-false, le-leb, lt-leb, ne-eqb}
 use Rattle.book.specs.declared.Update.{Update}
 use Rattle.message.specs.Message.{numbered, snapshot}
 use Rattle.book.proofs.Tests.{by-test}
-use Rattle.board.specs.Board.{anyWaiting, Inst, Board, Out, look, noInst, at, put, settled}
-use Rattle.board.specs.Count.{to, aimed, gives, counted, joined, count, numberBy, number}
+use Rattle.board.specs.Board.{anyWaiting, Inst, Board, Out, look, speaksOf, noInst, at, put, settled}
+use Rattle.board.specs.Count.{to, aimed, gives, counted, joined, count, clear, cleared, numberBy, number}
 use Rattle.board.specs.Snapshot.{shown}
 use Rattle.board.specs.Feed.{feed}
 use Rattle.board.specs.Calls.{inst, mine}
 use Rattle.board.specs.Sound.{Each}
-use Rattle.board.specs.Laws.{Same, OfAnother, OwnEntriesOnly, OwnSnapshotOnly, GivesOwnOnly}
+use Rattle.board.specs.Laws.{Same, OwnEntriesOnly, OfAnother, OthersStay, OwnSnapshotOnly, GivesOwnOnly}
 use Rattle.board.proofs.Finding.{look-found, mine-aimed}
 use Rattle.board.proofs.Giving.{hits, at-put-other, gives-at}
 use Rattle.board.proofs.Cases.{count-is, snap-is, take-is}
@@ -63,6 +63,59 @@ in-order n heard us b e =
     ap (λ (t : Bool). numberBy t (leb n (b .H + 1)) n heard us b) (lt-leb n (b .H) (omega arith))
     ∙ ap (λ (t : Bool). numberBy false t n heard us b) (le-leb n (b .H + 1) (omega arith))
 
+-- what a counted message leaves of an instrument is what the entries that speak of it make of it
+module _ (i n heard : ℕ) where
+  count-at : (a : ℕ) (us : List Update) (b : Board) → i < length (b .insts) → at i (count a n heard us b .board) ≡ hits (mine i us) (at i b)
+  count-at a us b l =
+      let c = counted n heard b in
+      count-is (λ o. at i (o .board) ≡ hits (mine i us) (at i b)) a n heard us b
+      (λ _. at-settled i false (gives us c) (gives us c) refl ∙ gives-at us i c l) (λ over _. joins over c l)
+    where
+      joins : (over : Bool) (c : Board) → i < length (c .insts) → at i (settled true (gives us (joined over n us c))) ≡ hits (mine i us) (at i c)
+      joins true c l = at-settled i true (gives us (joined true n us c)) (gives us (joined true n us c)) refl ∙ gives-at us i (joined true n us c) l
+      joins false c l = at-settled i true (gives us (joined false n us c)) (gives us (joined false n us c)) refl ∙ gives-at us i (joined false n us c) l
+
+  -- so messages that have the same of them leave the same
+  number-at : (us vs : List Update) (b : Board) → i < length (b .insts) → mine i us ≡ mine i vs
+      → at i (number n heard us b .board) ≡ at i (number n heard vs b .board)
+  unfolding number
+  number-at us vs b l e = go (leb n (b .H)) (leb n (b .H + 1))
+    where
+      counts : (a : ℕ) (c : Board) → i < length (c .insts) → at i (count a n heard us c .board) ≡ at i (count a n heard vs c .board)
+      counts a c k = count-at a us c k ∙ ap (λ (w : List Update). hits w (at i c)) e ∙ sym (count-at a vs c k)
+
+      go : (old next : Bool) → at i (numberBy old next n heard us b .board) ≡ at i (numberBy old next n heard vs b .board)
+      go true next = refl
+      go false true = counts 0 b l
+      go false false = counts 1 (cleared n b) (rw (length-map (b .insts) clear) l)
+
+mine-mine : (d : ℕ) (us : List Update) → mine d (mine d us) ≡ mine d us
+unfolding mine
+mine-mine d [] = refl
+mine-mine d (u ∷ us) = go (speaksOf d u) refl (mine-mine d us)
+  where
+    go : (t : Bool) → speaksOf d u ≡ t → mine d (mine d us) ≡ mine d us → mine d (cond t (u ∷ mine d us) (mine d us)) ≡ cond t (u ∷ mine d us) (mine d us)
+    go true e ih = ap (λ (t : Bool). cond t (u ∷ mine d (mine d us)) (mine d (mine d us))) e ∙ ap (u ∷_) ih
+    go false e ih = ih
+
+pub own-entries-only : OwnEntriesOnly
+unfolding feed
+own-entries-only d n heard us b =
+    let xs = b .insts in
+    let i = look d xs in
+    let m = feed (numbered n heard us) b .board in
+    let o = feed (numbered n heard (mine d us)) b .board in
+    let s = same-feed (numbered n heard us) b in
+    let t = same-feed (numbered n heard (mine d us)) b in
+    let j = ap (λ (k : ℕ). at k m) (same-look d m b s) in
+    let k = ap (λ (k : ℕ). at k o) (same-look d o b t) in
+    by-index i b (inst d m ≡ inst d o)
+    (λ l. j
+    ∙ number-at i n heard (map (aimed xs) us) (map (aimed xs) (mine d us)) b l
+    (mine-aimed d xs l us ∙ ap (map (to i)) (sym (mine-mine d us)) ∙ sym (mine-aimed d xs l (mine d us)))
+    ∙ sym k)
+    (λ l. j ∙ none-past i b m s l ∙ sym (none-past i b o t l) ∙ sym k)
+
 -- none of a message's entries speaks of one, where each is for another
 none-mine : (d : ℕ) (us : List Update) → Each (OfAnother d) us → mine d us ≡ []
 unfolding mine
@@ -72,9 +125,9 @@ none-mine d (u ∷ us) h =
     ∙ ap (λ (t : Bool). cond t (u ∷ mine d us) (mine d us)) (ne-eqb (u .who) d (h .0 .1))
     ∙ none-mine d us (h .1)
 
-pub own-entries-only : OwnEntriesOnly
+pub others-stay : OthersStay
 unfolding feed
-own-entries-only d n heard us b e h =
+others-stay d n heard us b e h =
     let m = map (aimed (b .insts)) us in
     let c = feed (numbered n heard us) b .board in
     let s = same-feed (numbered n heard us) b in

@@ -44,7 +44,7 @@ after-append i S (x ∷ p) q = go (speaksOf i (x .update) && ltb S (x .number)) 
     go true h = ap (x .update ∷_) h
     go false h = h
 
--- an entry for all names the first instrument, as one that is aimed does
+-- an entry for all that is aimed has 0 for an index
 abbrev pub FirstForAll : Update → Type 0
 FirstForAll u = forAll u ≡ true → u .who ≡ 0
 

@@ -195,7 +195,7 @@ module _ (d : ℕ) (s : ℕ → List Update) (t : ℕ → Lists) (i : ℕ) where
       holds-waiting s t i 0 (opened depth ids) (ap (λ (x : Inst). x .waiting) (List·getD-map fresh ids i 0)) (omega arith) refl
 
 -- an instrument that isn't followed is not Live
-live-followed : (d : ℕ) (b : Board) → Live d b → look d (b .insts) < length (b .insts)
+pub live-followed : (d : ℕ) (b : Board) → Live d b → look d (b .insts) < length (b .insts)
 live-followed d b l = go (ltb (look d (b .insts)) (length (b .insts))) refl
   where
     go : (t : Bool) → ltb (look d (b .insts)) (length (b .insts)) ≡ t → look d (b .insts) < length (b .insts)

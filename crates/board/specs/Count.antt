@@ -34,13 +34,13 @@ landed x (breach r) = broken x r
 unfoldable pub hit : Update → Inst → Inst
 hit u x = cond (x .waiting) x (landed x (applied (x .book) u))
 
--- The instrument that an entry names gets it, and each of them one that is for all.
-abbrev pub given : Update → List Inst → List Inst
-given u xs = cond (forAll u) (map (hit u) xs) (set xs (u .who) (hit u (getD xs (u .who) noInst)))
+-- An entry goes to the instrument that it names, one for all to each.
+abbrev pub handed : Update → List Inst → List Inst
+handed u xs = cond (forAll u) (map (hit u) xs) (set xs (u .who) (hit u (getD xs (u .who) noInst)))
 
 -- Live instruments get their entries in order.
 unfoldable pub give : Update → Board → Board
-give u b = withInsts (given u (b .insts)) b
+give u b = withInsts (handed u (b .insts)) b
 
 unfoldable pub gives : List Update → Board → Board
 gives [] b = b

@@ -30,12 +30,12 @@ entriesIn (numbered n heard us) = us
 entriesIn (snapshot h us) = []
 entriesIn (refused why) = []
 
--- The stream's entries for d in its message number n.
+-- The stream's entries for d and for all in its message number n.
 abbrev pub entriesAt : List Message → ℕ → ℕ → List Update
 entriesAt ms d zero = []
 entriesAt ms d (suc k) = mine d (entriesIn (messageAt ms k))
 
--- The book that the stream gives d up to number n: the entries for d of the messages 1 to n, on the empty book.
+-- The book that the stream gives d up to number n: the entries for d and for all of the messages 1 to n, on the empty book.
 unfoldable pub bookAt : List Message → ℕ → ℕ → Outcome Lists
 bookAt ms d zero = leaves empty
 bookAt ms d (suc k) = andThen (bookAt ms d k) (run (entriesAt ms d (suc k)))
@@ -69,8 +69,8 @@ Demand3 =
 abbrev pub Truth : (ℕ → List Update) → (ℕ → Lists) → Type 0
 Truth s t = (n : ℕ) (b : Lists) → run (s (suc n)) (t n) ≡ leaves b → b ≡ t (suc n)
 
--- Less is supposed of a call: a message that it counts has the stream's entries for d, and a snapshot of d that it takes shows
--- the true book at the number that the snapshot names.
+-- Less is supposed of a call: a message that it counts has the stream's entries for d and for all, and a snapshot of d that it takes
+-- shows the true book at the number that the snapshot names.
 abbrev pub Fair : ℕ → (ℕ → List Update) → (ℕ → Lists) → Call → Board → Type 0
 Fair d s t (fed (numbered n heard us)) b = isCounted (feed (numbered n heard us) b .answer) ≡ true → mine d us ≡ s n
 Fair d s t (fed (snapshot h us)) b = feed (snapshot h us) b .answer ≡ 4 → h .id ≡ d → shown us ≡ t (h .last)

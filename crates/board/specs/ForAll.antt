@@ -4,13 +4,13 @@ use mathlib.Core.Bool.{true, false, cond}
 use mathlib.Core.List.{List, [], _∷_, _++_, map}
 use Prim.Native.Nat.{ℕ, _≤_, _<_}
 use lib.ListN.{length, take}
-use Rattle.book.specs.Rules.{empty, emptyOfAll, forAll}
+use Rattle.book.specs.Rules.{empty, leaves, emptyOfAll, forAll}
 use Rattle.book.specs.declared.Update.{Update}
 use Rattle.book.specs.Sides.{noEntry}
 use Rattle.message.specs.Message.{Message, numbered, snapshot}
 use Rattle.board.specs.Board.{Inst, Queued, Board, opened, withInsts}
 use Rattle.board.specs.Count.{aimed, joining, give}
-use Rattle.board.specs.Snapshot.{after}
+use Rattle.board.specs.Snapshot.{run, after}
 use Rattle.board.specs.Feed.{feed}
 use Rattle.board.specs.Calls.{Call, fed, calls, answers, Throughout, inst, Live, mine}
 use Rattle.board.specs.Demand.{NumberedFromOne, NeverBreaks, Right}
@@ -18,11 +18,11 @@ use Rattle.board.specs.Sound.{opens}
 use Rattle.board.specs.Laws.{InRange}
 use Rattle.board.specs.Loss.{order, newBid}
 
--- An instrument with an empty book, and one that is Live so emptied at that point of the message: one that is Waiting, as one that broke
--- before it, stays as it is.
+-- An instrument with an empty book.
 abbrev pub bare : Inst → Inst
 bare x = record { id = x .id; waiting = x .waiting; reason = x .reason; book = empty }
 
+-- Emptied: the book of a Live one is empty; a Waiting one, as one that broke before it in the message, stays as it is.
 abbrev pub emptied : Inst → Inst
 emptied x = cond (x .waiting) x (bare x)
 
@@ -42,11 +42,13 @@ pub record SpeaksOfAll (u : Update) : Type 0 where
 abbrev pub ForAllSpeaksOfAll : Type 0
 ForAllSpeaksOfAll = (u : Update) → forAll u ≡ true → SpeaksOfAll u
 
--- So where a counted message ends with one, the book of each instrument that is Live behind it is empty.
-abbrev pub EndsEmpty : Type 0
-EndsEmpty =
-    (d n heard : ℕ) (us : List Update) (u : Update) (b : Board) → forAll u ≡ true → b .H < n
-    → Live d (feed (numbered n heard (us ++ u ∷ [])) b .board) → inst d (feed (numbered n heard (us ++ u ∷ [])) b .board) .book ≡ empty
+-- So where a counted message has one, the book of each instrument that is Live behind the message is what the entries behind that one make
+-- of an empty book.
+abbrev pub FromEmpty : Type 0
+FromEmpty =
+    (d n heard : ℕ) (us : List Update) (u : Update) (vs : List Update) (b : Board) → forAll u ≡ true → b .H < n
+    → Live d (feed (numbered n heard (us ++ u ∷ vs)) b .board)
+    → run (mine d vs) empty ≡ leaves (inst d (feed (numbered n heard (us ++ u ∷ vs)) b .board) .book)
 
 -- J for all, as it is read.
 abbrev pub allEmpty : Update
@@ -80,7 +82,7 @@ received = fed first ∷ fed (showing 7 1 2400) ∷ fed second ∷ fed third ∷
 abbrev pub hut : Board
 hut = opened 0 (7 ∷ 9 ∷ [])
 
-pub record Reset : Type 0 where
+pub record ChannelEmptied : Type 0 where
   -- all that demand 3 supposes, of both
   pub numbers : NumberedFromOne stream
   pub never-7 : NeverBreaks stream 7
@@ -105,10 +107,10 @@ pub record Reset : Type 0 where
 abbrev pub breaking : Message
 breaking = numbered 2 200 (newBid 7 3 (order 3 2402) ∷ allEmpty ∷ [])
 
-unfoldable pub broken : List Call
-broken = fed first ∷ fed (showing 7 1 2400) ∷ fed (showing 9 2 1100) ∷ fed breaking ∷ []
+unfoldable pub breaks : List Call
+breaks = fed first ∷ fed (showing 7 1 2400) ∷ fed (showing 9 2 1100) ∷ fed breaking ∷ []
 
 pub record BrokenBefore : Type 0 where
-  pub answered : answers broken hut ≡ 0 ∷ 4 ∷ 4 ∷ 0 ∷ []
-  pub waits : inst 7 (calls broken hut) ≡ record { id = 7; waiting = true; reason = 1; book = empty }
-  pub live : inst 9 (calls broken hut) ≡ record { id = 9; waiting = false; reason = 0; book = empty }
+  pub answered : answers breaks hut ≡ 0 ∷ 4 ∷ 4 ∷ 0 ∷ []
+  pub waits : inst 7 (calls breaks hut) ≡ record { id = 7; waiting = true; reason = 1; book = empty }
+  pub live : inst 9 (calls breaks hut) ≡ record { id = 9; waiting = false; reason = 0; book = empty }

@@ -46,13 +46,20 @@ pub record Same (b c : Board) : Type 0 where
 abbrev pub FeedsSame : Type 0
 FeedsSame = (m : Message) (b : Board) → Same (feed m b .board) b
 
--- Entries for one instrument never touch another's; since document 02, K4, that is said of entries with a 48 only. An instrument stays as
--- it is, with its book, mark and reason, where each entry of a message in order has the 48 of another, and where a snapshot isn't for it.
+-- Entries for one instrument never touch another's; since document 02, K4, that is said of entries with a 48 only. What a message leaves of
+-- an instrument, its book, mark and reason, is what it leaves without the entries that have the 48 of another: `mine d` keeps those with
+-- its own and those without one.
+abbrev pub OwnEntriesOnly : Type 0
+OwnEntriesOnly =
+    (d n heard : ℕ) (us : List Update) (b : Board)
+    → inst d (feed (numbered n heard us) b .board) ≡ inst d (feed (numbered n heard (mine d us)) b .board)
+
+-- So an instrument stays as it is where each entry of a message in order has the 48 of another, and where a snapshot isn't for it.
 abbrev pub OfAnother : ℕ → Update → Type 0
 OfAnother d u = (forAll u ≡ false) × (u .who ≢ d)
 
-abbrev pub OwnEntriesOnly : Type 0
-OwnEntriesOnly =
+abbrev pub OthersStay : Type 0
+OthersStay =
     (d n heard : ℕ) (us : List Update) (b : Board) → n ≡ b .H + 1 → Each (OfAnother d) us
     → inst d (feed (numbered n heard us) b .board) ≡ inst d b
 

@@ -49,7 +49,7 @@ unfoldable pub rising : ℕ → ℕ → List Queued → Bool
 rising from to [] = true
 rising from to (q ∷ qs) = within from to (q .number) && rising (q .number) to qs
 
--- A queued entry is of one of the k instruments.
+-- A queued entry is of one of the k instruments; one for all has 0 for it.
 unfoldable pub queuedFine : ℕ → ℕ → Queued → Bool
 queuedFine depth k q = ltb (q .update .who) k && updateFine depth (q .update)
 

@@ -9,7 +9,7 @@ use native.Mathlib.Omega.{arith}
 use lib.Dec.{ltb, leb, eqb}
 use lib.ListN.{length, take, drop, length-take, length-drop}
 use lib.Seq.{sets, ext-getD, getD-take, getD-drop}
-use borrow.Author.Tests.{ltb-false, leb-false, eqb-true}
+use borrow.Author.Tests.{ltb-false, eqb-true}
 use Rattle.book.specs.declared.Book.{Book}
 use Rattle.book.specs.declared.Update.{Update}
 use Rattle.book.specs.Rules.{Lists}

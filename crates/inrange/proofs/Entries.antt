@@ -22,7 +22,6 @@ use Rattle.orderid.specs.OrderIds.{idOf, idSound}
 use Rattle.orderid.specs.declared.OrderId.{OrderId}
 use Rattle.orderid.proofs.Back.{read-sound}
 use Rattle.book.specs.declared.Entry.{Entry}
-use Rattle.book.specs.declared.Update.{Update}
 use Rattle.book.specs.Rules.{emptyOfAll, isForAll}
 use Rattle.book.specs.Sides.{noEntry}
 use Rattle.board.specs.Ranges.{within, mostId, mostSize, mostOrders, idFine, priceFine, sizeFine, momentFine, ordersFine, byFine, entryFine, noneFine, updateFine, shownFine, saidFine}

@@ -15,7 +15,7 @@ abbrev pub took : Inst → Outcome Lists → Inst
 took x (leaves l) = live x l
 took x (breach r) = broken x r
 
--- One that waits and was not named takes it: the empty book at the lowest 369, and then what is queued for it above that number.
+-- One that waits and was not named takes it: the empty book at the lowest 369, and then what is queued for it and for all above that number.
 abbrev pub takesIt : Loop → ℕ → Inst → Bool
 takesIt l i x = x .waiting && not (marked (l .named) i)
 

@@ -4,19 +4,20 @@ use mathlib.Core.Bool.{true, false}
 use mathlib.Core.List.{List, [], _∷_, _++_}
 use Prim.Native.Nat.{ℕ, _<_}
 use lib.ListN.{length}
-use Rattle.book.specs.Rules.{empty, forAll}
+use Rattle.book.specs.Rules.{empty, leaves, forAll}
 use Rattle.book.specs.declared.Update.{Update}
 use Rattle.message.specs.Message.{numbered, refused}
 use Rattle.message.specs.declared.Refusal.the-variants.{BadFields}
 use Rattle.board.specs.Board.{fresh}
-use Rattle.board.specs.Calls.{inst, Live}
-use Rattle.board.specs.ForAll.{ForAllSpeaksOfAll, Reset, BrokenBefore}
+use Rattle.board.specs.Snapshot.{run}
+use Rattle.board.specs.Calls.{inst, Live, mine}
+use Rattle.board.specs.ForAll.{ForAllSpeaksOfAll, ChannelEmptied, BrokenBefore}
 use Rattle.fields.specs.Messages.{messageIn}
 use Rattle.store.specs.Meaning.{boardAt}
 use Rattle.sound.specs.Sound.{sound}
 use Rattle.opening.specs.Opening.{openAnswer, openStore}
 use Rattle.feed.specs.Feeding.{feedAnswer, feedStore}
-use Rattle.samples.specs.Messages.{first, second, one-of-two, all-empty, all-empty-22, all-empty-207, bid-without-48}
+use Rattle.samples.specs.Messages.{first, second, one-of-two, two-of-two, all-empty, all-empty-22, all-empty-207, bid-without-48}
 use Rattle.samples.specs.Says.{bid-2, all-says}
 use Rattle.promises.specs.Acts.{Act, feeds, lefts}
 
@@ -27,14 +28,16 @@ pub record ReadForAll : Type 0 where
   pub with-207 : messageIn 0 all-empty-207 ≡ refused BadFields
   pub bid : messageIn 0 bid-without-48 ≡ refused BadFields
 
--- On any sound store a message that is counted and ends with such an entry leaves an empty book to each instrument that is Live behind it.
+-- On any sound store, where a message is counted that has such an entry, the book of each instrument that is Live behind the message is what
+-- the entries behind that one make of an empty book.
 abbrev pub EmptiesChannel : Type 0
 EmptiesChannel =
-    (bytes xs : List ℕ) (n heard : ℕ) (us : List Update) (u : Update) → sound xs ≡ true
-    → messageIn (boardAt xs .depth) bytes ≡ numbered n heard (us ++ u ∷ []) → forAll u ≡ true → boardAt xs .H < n
-    → (d : ℕ) → Live d (boardAt (feedStore bytes xs)) → inst d (boardAt (feedStore bytes xs)) .book ≡ empty
+    (bytes xs : List ℕ) (n heard : ℕ) (us : List Update) (u : Update) (vs : List Update) → sound xs ≡ true
+    → messageIn (boardAt xs .depth) bytes ≡ numbered n heard (us ++ u ∷ vs) → forAll u ≡ true → boardAt xs .H < n
+    → (d : ℕ) → Live d (boardAt (feedStore bytes xs)) → run (mine d vs) empty ≡ leaves (inst d (boardAt (feedStore bytes xs)) .book)
 
--- The hut follows 7 and 9. It hears messages 1 and 2, takes a snapshot of 7, the first of two, and then hears that all books are empty.
+-- The hut follows 7 and 9. It hears messages 1 and 2, takes a snapshot of 7, the first of a loop of two, and then hears that all books are
+-- empty. The loop's other snapshot is for an instrument that is not followed.
 abbrev pub ours : List ℕ
 ours = 7 ∷ 9 ∷ []
 
@@ -52,6 +55,8 @@ pub record Emptied (xs : List ℕ) : Type 0 where
   pub last : boardAt (feedStore all-empty (lefts before (openStore 0 ours xs))) .H ≡ 3
   pub heard : boardAt (feedStore all-empty (lefts before (openStore 0 ours xs))) .heard ≡ 64968180542000
   pub queued : length (boardAt (feedStore all-empty (lefts before (openStore 0 ours xs))) .queue) ≡ 3
+  -- the loop is whole, as of message 2: the replay of 9 meets the entry, and 9 is Live with an empty book
+  pub whole : inst 9 (boardAt (feedStore two-of-two (feedStore all-empty (lefts before (openStore 0 ours xs))))) ≡ record { id = 9; waiting = false; reason = 0; book = empty }
 
 abbrev pub HutIsEmptied : Type 0
 HutIsEmptied = (xs : List ℕ) → openAnswer 0 ours xs ≡ 0 → Emptied xs
@@ -61,6 +66,6 @@ pub record ForAllPromises : Type 0 where
   pub empties : EmptiesChannel
   -- what it does on a board, in the queue, in a replay and in the stream, and a morning of it
   pub speaks : ForAllSpeaksOfAll
-  pub reset : Reset
+  pub emptied : ChannelEmptied
   pub broken : BrokenBefore
   pub hut : HutIsEmptied

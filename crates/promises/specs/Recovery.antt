@@ -36,9 +36,9 @@ RecoversStream =
     → bookAt (readIn depth stream) d (boardAt (lefts cs (openStore depth ids xs)) .H)
     ≡ leaves (inst d (boardAt (lefts cs (openStore depth ids xs))) .book)
 
--- The stronger statement, from which it follows: s n are the entries for d in message n, and t n is its true book after it, which
--- the stream may break. Less is supposed of a call: a message that it counts has the stream's entries for d, and it is the true book
--- that snapshots and the ends of loops show.
+-- The stronger statement, from which it follows: s n are the entries for d and for all in message n, and t n is its true book after it,
+-- which the stream may break. Less is supposed of a call: a message that it counts has the stream's entries for d and for all, and it is
+-- the true book that snapshots and the ends of loops show.
 abbrev pub SupposedLess : ℕ → ℕ → (ℕ → List Update) → (ℕ → Lists) → Act → List ℕ → Type 0
 SupposedLess depth d s t (feeds bytes) xs = FairBy d s t (fed (messageIn depth bytes)) (channelAt xs)
 SupposedLess depth d s t reads xs = Unit {0}

@@ -20,7 +20,7 @@ letGoS s = st (letGo (s .head)) (sets (s .store) atQueue (zeros queueSize))
 abbrev pub settleS : State → State
 settleS s = cond (eqb (s .head .marks) 0) (letGoS s) s
 
--- An entry for a followed instrument takes the next place, with the number of its message.
+-- An entry for a followed instrument, or for all, whose who is 0, takes the next place, with the number of its message.
 abbrev pub joinOneS : ℕ → Update → State → State
 joinOneS n u s =
     cond (ltb (u .who) (s .head .followed)) (st (queuedMore (s .head)) (sets (s .store) (slotOf (s .head .queued)) (queuedWords n u))) s
@@ -29,7 +29,7 @@ unfoldable pub joinAllS : ℕ → List Update → State → State
 joinAllS n [] s = s
 joinAllS n (u ∷ us) s = joinAllS n us (joinOneS n u s)
 
--- How many are for the first k instruments.
+-- How many have a who below k.
 unfoldable pub howMany : ℕ → List Update → ℕ
 howMany k [] = 0
 howMany k (u ∷ us) = cond (ltb (u .who) k) 1 0 + howMany k us

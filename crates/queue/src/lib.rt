@@ -1,5 +1,5 @@
 // The queue, in place in the store (document 01, "Numbers, queue and marks"): a message's entries for followed instruments
-// join it; more than 256 let it go, and so does the end of a call after which none waits.
+// and for all join it; more than 256 let it go, and so does the end of a call after which none waits.
 use book::Update;
 use heading::Heading;
 ghost use mathlib.Core.Path.{_≡_};
@@ -75,7 +75,7 @@ fn one_if(joins: bool) -> usize
     if joins { 1 } else { 0 }
 }
 
-// How many of the entries are for the first k instruments.
+// How many of the entries join: those for the first k instruments, and those for all, whose who is 0.
 fn how_many(run: &[u64], count: usize, k: usize) -> usize
     requires { ⌜ count * updateSize ≤ length (now run) ⌝ }
     ensures { λ r. ⌜ (r ≡ howMany k (updatesIn (now (run .entry)) count)) × (r ≤ count) ⌝ }

@@ -1,5 +1,6 @@
 -- A book that we write is taken by another hut: fed to any board of the same depth kind that follows the instrument, has it
--- Waiting, has B ≤ H ≤ its own H and nothing queued for it above that number, the bytes are taken, and the book is the same book.
+-- Waiting, has B ≤ H ≤ its own H and nothing queued for it or for all above that number, the bytes are taken, and the book is the same
+-- book.
 use mathlib.Core.Path.{_≡_}
 use mathlib.Core.Bool.{true, false}
 use mathlib.Core.List.{[]}

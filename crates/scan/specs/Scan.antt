@@ -82,7 +82,7 @@ updateScan most full xs at =
     && cond (leb (getD xs (at + 2) 0) 1) (entryScan most full xs (at + 4)) (allZero xs (at + 4) 5)))
     (emptyScan (getD xs at 0) (getD xs (at + 1) 0) && eqb (getD xs (at + 2) 0) 0 && eqb (getD xs (at + 3) 0) 0 && allZero xs (at + 4) 5)
 
--- A queued entry whose number lies in `low` to `high`, of one of n instruments, with its spare number.
+-- A queued entry whose number lies in `low` to `high`, its who below n, with its spare number.
 unfoldable pub slotScan : ℕ → ℕ → ℕ → ℕ → ℕ → List ℕ → ℕ → Bool
 slotScan low high n most full xs at =
     within low high (getD xs at 0)
