@@ -66,6 +66,13 @@ impl Channel {
         }
     }
 
+    /// Takes J for all out of the queue under a flip.
+    fn drop_for_all_if(&mut self, flip: Flip) {
+        if on(flip) {
+            self.queue.retain(|queued| queued.entry != Entry::EmptyAll);
+        }
+    }
+
     /// How many instruments are Waiting.
     pub fn waiting(&self) -> usize {
         self.instruments.iter().filter(|instrument| instrument.waiting).count()
@@ -100,6 +107,9 @@ impl Channel {
         }
         self.drop_loop_if(Flip::LoopCountedDrops);
         let let_go = self.count_in_order(message);
+        if gap {
+            self.drop_for_all_if(Flip::AllGapNotQueued);
+        }
         match (gap, let_go) {
             (true, _) => GAP,
             (false, true) => LET_GO,
@@ -143,7 +153,7 @@ impl Channel {
             .collect();
         let most = either(Flip::Queue257, either(Flip::Queue255, QUEUE_ROOM, 255), 257);
         let counted = either(Flip::QueueUnfollowed, self.counted(&joining), message.entries.len());
-        let let_go = self.queue.len() + counted > most;
+        let let_go = self.counted(&self.queue) + counted > most;
         if let_go {
             self.queue.clear();
             self.b = either(Flip::LetGoKeepsB, self.h, self.b);
@@ -178,12 +188,12 @@ impl Channel {
         vec![entry.clone()]
     }
 
-    /// How many count against 256: each that joins, and one for all once.
-    fn counted(&self, joining: &[Queued]) -> usize {
-        let for_all = joining.iter().filter(|queued| queued.entry == Entry::EmptyAll).count();
-        let each = joining.len() + for_all * (self.instruments.len() - 1);
-        let counted = either(Flip::AllCountsEach, joining.len(), each);
-        either(Flip::AllCountsNone, counted, counted - for_all.min(1))
+    /// How many entries count against 256: each of them, and one for all once.
+    fn counted(&self, entries: &[Queued]) -> usize {
+        let for_all = entries.iter().filter(|queued| queued.entry == Entry::EmptyAll).count();
+        let each = entries.len() + for_all * (self.instruments.len() - 1);
+        let counted = either(Flip::AllCountsEach, entries.len(), each);
+        either(Flip::AllCountsNone, counted, entries.len() - for_all)
     }
 
     /// Live instruments get their entries in order; the other entries of one that breaks are
@@ -199,6 +209,9 @@ impl Channel {
                     || (emptied && on(Flip::AllSecondPassed));
                 if !passed {
                     self.empty_live(message, &before);
+                }
+                if broke && !waited && on(Flip::AllQueuedAtBreak) {
+                    self.queue.push(Queued { number: message.number, entry: Entry::EmptyAll });
                 }
                 emptied = true;
                 continue;
@@ -243,7 +256,6 @@ impl Channel {
                 instrument.book.offers.clear();
             }
             instrument.waiting = on(Flip::AllMarksWaiting);
-            instrument.reason = either(Flip::AllTellsReason, instrument.reason, 1);
         }
         if on(Flip::AllLetsGo) {
             self.queue.clear();
@@ -259,7 +271,9 @@ impl Channel {
     pub(crate) fn settle(&mut self, broke_with_none_waiting: bool) {
         let broke = either(Flip::BreakKeepsB, broke_with_none_waiting, false);
         if self.waiting() == 0 || broke {
-            self.queue.clear();
+            if !(broke && on(Flip::AllQueuedAtBreak)) {
+                self.queue.clear();
+            }
             self.b = either(Flip::BLeftBehind, self.h, self.b);
         }
     }
@@ -303,9 +317,7 @@ impl Channel {
         let id = snapshot.id;
         let replay = self.queued_from(first, id);
         self.heard = either(Flip::SnapshotHeard, self.heard, Some(snapshot.time));
-        if on(Flip::AllReplayedOnce) {
-            self.queue.retain(|queued| queued.entry != Entry::EmptyAll);
-        }
+        self.drop_for_all_if(Flip::AllReplayedOnce);
         let instrument = self.find_mut(id).expect("followed");
         instrument.set_and_replay(snapshot.book, &replay)
     }

@@ -79,7 +79,9 @@ pub fn words(channel: &Channel) -> Vec<u64> {
         put_side(&mut words[side(i, 1)..], &instrument.book.offers);
     }
     for (k, queued) in channel.queue.iter().enumerate() {
-        words[slot(k)..slot(k) + SLOT].copy_from_slice(&queued_words(channel, queued));
+        // A flip may queue more than there are numbers for.
+        let Some(words) = words.get_mut(slot(k)..slot(k) + SLOT) else { break };
+        words.copy_from_slice(&queued_words(channel, queued));
     }
     words
 }

@@ -135,6 +135,53 @@ fn behind_a_break() {
     assert_eq!(numbers(&keeper), (2, 2, 0));
 }
 
+/// While another waits already it stays queued, and B stays: the replay of the one that broke meets it too.
+#[test]
+fn behind_a_break_while_another_waits() {
+    let start = || {
+        let mut keeper = one_waits();
+        fed(&mut keeper, &x(3, &[&delete(7, 9), FOR_ALL, &new(7, 1), &new(9, 1)]), (0, 2));
+        assert_eq!(states(&keeper), [BROKEN, BROKEN, [0, 0, 1, 0]]);
+        assert_eq!(numbers(&keeper), (2, 3, 4));
+        assert_eq!(keeper.words()[slot(1)..slot(2)], [3, 0, J_FOR_ALL, 0, 0, 0, 0, 0, 0, 0, 0]);
+        fed(&mut keeper, &x(4, &[&new(7, 1)]), (0, 2));
+        assert_eq!(numbers(&keeper), (2, 4, 5));
+        keeper
+    };
+    // As of 2 the delete comes first: nine bids bear it, fewer do not.
+    let cases = [
+        (1, 9, 7, BROKEN),
+        (2, 8, 10, BROKEN),
+        (2, 9, 4, [0, 0, 2, 0]),
+        (3, 9, 4, [0, 0, 10, 1]),
+        (4, 9, 4, [0, 0, 9, 1]),
+    ];
+    for (last, bids, answer, after) in cases {
+        let mut keeper = start();
+        fed(&mut keeper, &w((1, 9), 7, last, bids), (answer, 1 + after[0]));
+        assert_eq!(states(&keeper), [after, BROKEN, [0, 0, 1, 0]], "{last}, {bids}");
+        assert_eq!(numbers(&keeper), (2, 4, 5));
+        // It is still there for the one that waited before.
+        fed(&mut keeper, &w((1, 9), 8, 2, 3), (4, after[0]));
+        assert_eq!(states(&keeper), [after, EMPTY, [0, 0, 1, 0]]);
+        assert_eq!(numbers(&keeper), if after[0] == 0 { (4, 4, 0) } else { (2, 4, 5) });
+    }
+}
+
+/// Behind a break where none waited before it takes no place in the queue: 256 entries find room.
+#[test]
+fn behind_a_break_no_place_is_taken() {
+    let mut keeper = live(0);
+    fed(&mut keeper, &x(2, &[&delete(8, 9), FOR_ALL, FOR_ALL]), (0, 1));
+    assert_eq!(numbers(&keeper), (2, 2, 0));
+    for number in 3..7 {
+        fed(&mut keeper, &x(number, &[FOR_ALL; 64]), (0, 1));
+    }
+    assert_eq!(numbers(&keeper), (2, 6, 256));
+    fed(&mut keeper, &x(7, &[FOR_ALL]), (3, 1));
+    assert_eq!(numbers(&keeper), (7, 7, 0));
+}
+
 /// It joins the queue whenever one waits, whatever else its message holds, and Live books are emptied.
 #[test]
 fn queued_as_one_entry() {

@@ -76,14 +76,16 @@ pub enum Mood {
     Emptying,
 }
 
-/// Whose entries a message should hold.
+/// Whose entries a message should hold. Wrong ones are of followed instruments always, and now and
+/// then a J for all stands among the others, with `NotFollowed` only where it is wished for.
 #[derive(Clone, Copy, PartialEq, Default)]
 pub enum Who {
     #[default]
     Any,
-    /// Only bids, offers and J of followed instruments.
+    /// Only entries that join the queue: bids, offers and J of followed instruments, and J for all.
     Followed,
-    /// Only entries that don't join the queue.
+    /// Only entries of instruments that aren't followed: they don't join the queue, but a J for all
+    /// beside them does.
     NotFollowed,
     /// Only entries of this instrument.
     One(usize),
@@ -98,7 +100,7 @@ pub struct Wish {
     pub sparse: bool,
     /// How many entries ask for a place that isn't there or for room that isn't there.
     pub wrong: usize,
-    /// How many entries are J for all.
+    /// How many J for all are put among the entries; two may fall on one place.
     pub resets: usize,
 }
 

@@ -25,7 +25,7 @@ pub fn count_message(before: &Channel, message: &Counted, answer: u64, counts: &
     let waited = before.waiting() > 0;
     counts.count_if(alone && !waited, Happening::AllAlone);
     counts.count_if(alone && waited, Happening::AllAloneQueued);
-    count_given(before, &message.entries, counts);
+    count_given(before, &message.entries, answer, counts);
     if waited {
         count_queued(before, &message.entries, answer, counts);
     }
@@ -53,7 +53,9 @@ struct Given {
     behind: bool,
 }
 
-fn count_given(before: &Channel, entries: &[Entry], counts: &mut Happenings) {
+fn count_given(before: &Channel, entries: &[Entry], answer: u64, counts: &mut Happenings) {
+    let waited = before.waiting() > 0;
+    let queued = waited && answer != LET_GO;
     let live = before.instruments.iter().filter(|it| !it.waiting);
     let mut given: Vec<Given> = live
         .map(|it| Given { id: it.id, book: Some(it.book.clone()), before: false, behind: false })
@@ -63,7 +65,10 @@ fn count_given(before: &Channel, entries: &[Entry], counts: &mut Happenings) {
         match entry {
             Entry::EmptyAll => {
                 counts.count_if(met && entry_since, Happening::AllTwice);
-                count_emptied(&mut given, before.waiting() > 0, counts);
+                let broke = given.iter().any(|it| it.book.is_none());
+                counts.count_if(broke && !waited, Happening::AllAfterBreak);
+                counts.count_if(broke && queued, Happening::AllAfterBreakQueued);
+                count_emptied(&mut given, waited, counts);
                 (met, entry_since) = (true, false);
             }
             Entry::One { id, step } => {
@@ -82,7 +87,6 @@ fn count_emptied(given: &mut [Given], waited: bool, counts: &mut Happenings) {
     counts.count_if(held > 1, Happening::AllSeveral);
     counts.count_if(held > 0 && waited, Happening::AllWhileWaiting);
     counts.count_if(given.iter().any(|it| it.before), Happening::AllAfter);
-    counts.count_if(given.iter().any(|it| it.book.is_none()), Happening::AllAfterBreak);
     given.iter_mut().filter_map(|it| it.book.as_mut()).for_each(Book::empty);
 }
 
