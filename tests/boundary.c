@@ -400,14 +400,15 @@ static void feed(struct board *board, uint64_t answer, uint64_t waiting, const c
 #define AROUND_TEXT 63            /* bytes of such a message around that value */
 #define EMPTY_W "35=W|34=1|" AT "48=%d|22=8|369=%d|911=2|268=0|" /* one of two: no whole loop */
 
-/* Makes the W numbered `turn` of a loop of `reports`, with that many bids. */
+/* Makes the W numbered `turn` of a loop of `reports`, with that many bids, of either depth kind. */
 static void make_turn(uint64_t turn, uint64_t reports, int id, int last, int bids)
 {
     char entries[MESSAGE_ROOM / 2] = "";
     size_t n = 0;
     for (int i = 1; i <= bids; i++)
         n += (size_t)snprintf(entries + n, sizeof entries - n,
-                              "269=0|270=%d|271=1|37=A%d|" STAMP "290=%d|", 100 - i, i, i);
+                              "269=0|270=%d|271=1|37=A%d|346=%d|" STAMP "290=%d|", 100 - i, i, i,
+                              i);
     make("35=W|34=%" PRIu64 "|" AT "48=%d|22=8|369=%d|911=%" PRIu64 "|268=%d|%s", turn, id, last,
          reports, bids, entries);
 }
@@ -1062,16 +1063,21 @@ enum { OTHER = 55 }; /* an instrument that is not followed */
 
 /* Opens the first board for 7, 8 and 9, which all wait, with B = 2 and H = 5. The queue holds a bid
  * of 8 (message 4) and one of 9 (5). */
-static void open_options(void)
+static void open_options_of(uint64_t depth)
 {
     static const uint64_t ids[] = {7, 8, 9};
     fresh(&first);
-    check_equal(open_board(&first, SELKAVORN_ORDER_DEPTH, ids, 3), SELKAVORN_DONE, "opening");
+    check_equal(open_board(&first, depth, ids, 3), SELKAVORN_DONE, "opening");
     feed(&first, SELKAVORN_GAP, 3, "3 is a gap", HEARTBEAT, 3);
     feed(&first, SELKAVORN_DONE, 3, "a bid of 8",
-         "35=X|34=4|" AT "268=1|279=0|269=0|" ENTRY("8", "24.01") "290=1|");
+         "35=X|34=4|" AT "268=1|279=0|269=0|" ENTRY("8", "24.01") "346=1|290=1|");
     feed(&first, SELKAVORN_DONE, 3, "a bid of 9",
-         "35=X|34=5|" AT "268=1|279=0|269=0|" ENTRY("9", "0.5") "290=1|");
+         "35=X|34=5|" AT "268=1|279=0|269=0|" ENTRY("9", "0.5") "346=1|290=1|");
+}
+
+static void open_options(void)
+{
+    open_options_of(SELKAVORN_ORDER_DEPTH);
 }
 
 /* Feeds the W numbered `turn` of a loop of `reports`, with no entries. */
@@ -1820,6 +1826,7 @@ static const struct {
                    {"J with 279 = 5", "279=5|269=J|"},
                    {"J with 279 = 00", "279=00|269=J|"},
                    {"J twice in an entry", "279=0|269=J|269=J|"},
+                   {"J with 290 twice", "279=0|269=J|290=1|290=1|"},
                    {"J with 369", "279=0|269=J|369=1|"},
                    {"no 269", "279=0|"},
                    {"bid without 48", "279=0|269=0|22=8|" VALUES},
@@ -2038,12 +2045,11 @@ static void test_all_queued(void)
 }
 
 /* Whoever takes a snapshot with S below its number meets it. */
-static void test_all_replayed(void)
+static void check_all_replayed(uint64_t depth)
 {
-    begin("J of all instruments in replays");
     for (int last = 0; last <= 3; last++)
         for (int other_last = 0; other_last <= 3; other_last++) {
-            open_fresh(&first, SELKAVORN_ORDER_DEPTH);
+            open_fresh(&first, depth);
             feed(&first, SELKAVORN_DONE, 2, "1", HEARTBEAT, 1);
             feed_entries(2, 1, ALL, SELKAVORN_DONE, 2, "2, alone in its message");
             feed(&first, SELKAVORN_DONE, 2, "3", HEARTBEAT, 3);
@@ -2055,7 +2061,7 @@ static void test_all_replayed(void)
             check_standing(7, (struct standing){0, 0, other_last < 2 ? 0 : 3}, "and so is 7");
             check_standing(9, (struct standing){0, 0, last < 2 ? 0 : 2}, "9 stays");
         }
-    open_options();
+    open_options_of(depth);
     feed_entries(6, 3, BID_OF("7") ALL BID_OF("9"), SELKAVORN_DONE, 3, "between two bids");
     make_turn(1, 2, 7, 5, 5);
     feed_made(&first, SELKAVORN_TAKEN, 2, "7 is taken");
@@ -2066,7 +2072,7 @@ static void test_all_replayed(void)
     make_turn(1, 2, 8, 6, 5);
     feed_made(&first, SELKAVORN_TAKEN, 0, "8 is taken at its number");
     check_standing(8, (struct standing){0, 0, 5}, "8: the snapshot has it already");
-    open_options();
+    open_options_of(depth);
     feed_entries(6, 2, NO_PLACE_OF("7") ALL, SELKAVORN_DONE, 3, "what does not fit, before it");
     make_turn(1, 2, 7, 5, 2);
     feed_made(&first, SELKAVORN_REPLAY_BROKE, 3, "the replay breaks before it");
@@ -2077,7 +2083,7 @@ static void test_all_replayed(void)
     make_turn(1, 2, 8, 6, 2);
     feed_made(&first, SELKAVORN_TAKEN, 2, "from 6 on it fits");
     check_standing(8, live_with_bid, "8 has one bid of two");
-    open_options();
+    open_options_of(depth);
     feed_entries(6, 1, ALL, SELKAVORN_DONE, 3, "a place for 20 more");
     make_turn(1, 2, 9, 4, 20);
     feed_made(&first, SELKAVORN_REPLAY_BROKE, 3, "no room before it");
@@ -2086,19 +2092,71 @@ static void test_all_replayed(void)
     make_turn(1, 2, 9, 5, 20);
     feed_made(&first, SELKAVORN_TAKEN, 2, "room behind it");
     check_standing(9, live_with_bid, "9 has the last bid");
-    open_options();
+    open_options_of(depth);
     feed_entries(6, 1, ALL, SELKAVORN_DONE, 3, "before the end of a loop");
     feed_entries(7, 1, BID_OF("9"), SELKAVORN_DONE, 3, "a bid of 9");
     feed_turn(1, 1, OTHER, 2, SELKAVORN_SNAPSHOT_UNFOLLOWED, 0, "the loop is whole");
     check_standing(7, live, "7 is empty");
     check_standing(8, live, "8: its bid of 4 is gone");
     check_standing(9, live_with_bid, "9: its bid of 7 is there");
-    open_options();
+    open_options_of(depth);
     feed_entries(6, 1, ALL, SELKAVORN_DONE, 3, "before the end of a loop");
     feed_entries(7, 1, "279=1|269=0|48=8|22=8|" VALUES, SELKAVORN_DONE, 3, "a change of 8");
     feed_turn(1, 1, OTHER, 3, SELKAVORN_SNAPSHOT_UNFOLLOWED, 1, "the loop is whole");
     check_standing(8, (struct standing){1, SELKAVORN_REASON_PLACE, 0}, "8: its bid of 4 is gone");
     check_standing(9, live, "9: its bid of 5 too");
+}
+
+static void test_all_replayed(void)
+{
+    begin("J of all instruments in replays");
+    for (uint64_t depth = 0; depth < 2; depth++)
+        check_all_replayed(depth);
+    end();
+}
+
+/* 7 is Live and breaks before the J, in its message, while 9 waits: B stays, the J is queued, and
+ * whatever 7 takes from before it meets it. */
+static void check_all_broken(uint64_t depth)
+{
+    static const struct standing no_room = {1, SELKAVORN_REASON_NO_ROOM, 0};
+    static const uint64_t slot[SLOT_NUMBERS] = {2, 0, 3};
+    for (int last = 0; last <= 2; last++) {
+        open_fresh(&first, depth);
+        feed(&first, SELKAVORN_TAKEN, 1, "7 at 369 = 0", EMPTY_W, 7, 0);
+        feed_entries(1, 2, BID_OF("7") OFFER_OF("7"), SELKAVORN_DONE, 1, "7 has a book");
+        feed_entries(2, 3, NO_PLACE_OF("7") ALL BID_OF("7"), SELKAVORN_DONE, 2, "7 breaks");
+        check_standing(7, (struct standing){1, SELKAVORN_REASON_PLACE, 0}, "7 waits");
+        check_standing(9, waits, "9 waits as before");
+        check_summary(2, 20250103, 130007125, 0, 3, "B stays");
+        check_equal(store_of(&first)[QUEUED_AT], 5, "all five entries are queued");
+        for (size_t i = 0; i < SLOT_NUMBERS; i++)
+            check_equal(store_of(&first)[QUEUE_AT + 3 * SLOT_NUMBERS + i], slot[i], "its slot");
+        make_turn(1, 2, 7, last, 9);
+        feed_made(&first, SELKAVORN_TAKEN, 1, "9 bids, of which the last is deleted");
+        check_standing(7, (struct standing){0, 0, last < 2 ? 1 : 9}, "the bid behind it alone");
+        make_turn(1, 2, 9, last, 2);
+        feed_made(&first, SELKAVORN_TAKEN, 0, "9 is taken");
+        check_standing(9, (struct standing){0, 0, last < 2 ? 0 : 2}, "9 meets it too");
+    }
+    open_fresh(&first, depth);
+    make_turn(1, 2, 7, 0, 20);
+    feed_made(&first, SELKAVORN_TAKEN, 1, "7 has 20 bids");
+    feed(&first, SELKAVORN_DONE, 1, "1", HEARTBEAT, 1);
+    feed_entries(2, 2, BID_OF("7") ALL, SELKAVORN_DONE, 2, "no room before it");
+    check_standing(7, no_room, "7 waits");
+    check_summary(2, 20250103, 130007125, 0, 3, "B stays");
+    check_equal(store_of(&first)[QUEUED_AT], 2, "the bid and the J are queued");
+    feed_turn(1, 1, OTHER, 1, SELKAVORN_SNAPSHOT_UNFOLLOWED, 0, "the loop is whole");
+    check_emptied(7, 2, "7: the bid before it is gone");
+    check_emptied(9, 2, "9 is empty");
+}
+
+static void test_all_broken(void)
+{
+    begin("J of all instruments behind a break");
+    for (uint64_t depth = 0; depth < 2; depth++)
+        check_all_broken(depth);
     end();
 }
 
@@ -2129,11 +2187,11 @@ static const struct {
              {"a number above H", 0, 2, false},
              {"a number of B", 0, 0, false}};
 
-static void test_all_store(void)
+static void check_all_store(uint64_t depth)
 {
-    begin("store with a J of all instruments");
+    static const char *const before[] = {EMPTY_OF("7"), EMPTY_OF("9"), BID_OF("7"), ALL};
     for (size_t i = 0; i < sizeof slots / sizeof *slots; i++) {
-        open_fresh(&first, SELKAVORN_ORDER_DEPTH);
+        open_fresh(&first, depth);
         feed_entries(1, 1, ALL, SELKAVORN_DONE, 2, "it is queued");
         store_of(&first)[QUEUE_AT + slots[i].at] = slots[i].value;
         if (slots[i].sound)
@@ -2141,16 +2199,33 @@ static void test_all_store(void)
         else
             check_refused_store(slots[i].what);
     }
-    open_fresh(&first, SELKAVORN_ORDER_DEPTH);
+    open_fresh(&first, depth);
     feed_entries(1, 1, EMPTY_OF("9"), SELKAVORN_DONE, 2, "a J of the second instrument");
     check_equal(store_of(&first)[QUEUE_AT + 1], 1, "its instrument");
     check_equal(store_of(&first)[QUEUE_AT + 2], 2, "it is of one");
     store_of(&first)[QUEUE_AT + 2] = 3;
     check_refused_store("a J of all with an instrument");
-    open_fresh(&first, SELKAVORN_ORDER_DEPTH);
+    open_fresh(&first, depth);
     feed_entries(1, 1, ALL, SELKAVORN_DONE, 2, "it is queued");
     store_of(&first)[QUEUE_AT + SLOT_NUMBERS + 2] = 3;
     check_refused_store("a slot that is not used");
+    for (size_t i = 0; i < sizeof before / sizeof *before; i++) {
+        open_fresh(&first, depth);
+        feed(&first, SELKAVORN_DONE, 2, "1", HEARTBEAT, 1);
+        feed_entries(2, 1, before[i], SELKAVORN_DONE, 2, "an entry of 2");
+        feed_entries(3, 1, ALL, SELKAVORN_DONE, 2, "it is queued behind it");
+        store_of(&first)[QUEUE_AT + SLOT_NUMBERS] = 2;
+        check_summary(3, 20250103, 130007125, 0, 3, "the number of the entry before it");
+        store_of(&first)[QUEUE_AT + SLOT_NUMBERS] = 1;
+        check_refused_store("a number below the entry before it");
+    }
+}
+
+static void test_all_store(void)
+{
+    begin("store with a J of all instruments");
+    for (uint64_t depth = 0; depth < 2; depth++)
+        check_all_store(depth);
     end();
 }
 
@@ -2401,6 +2476,7 @@ int main(void)
     test_all_in_message();
     test_all_queued();
     test_all_replayed();
+    test_all_broken();
     test_all_store();
     test_walk_arguments();
     test_walk();
