@@ -27,6 +27,7 @@ entries_of() {
     case $1 in
     e) echo '1|279=0|269=J|' ;;
     i) echo '1|279=0|269=J|48=7|22=8|' ;;
+    f) echo "64|$(yes '279=0|269=J|48=8|22=8|' | head -n 64 | tr -d '\n')" ;;
     r) echo '1|279=0|269=J|22=8|' ;;
     s) echo '1|279=0|269=J|207=BVMF|' ;;
     m) echo "3|${bid}279=4|269=J|$bid" ;;
@@ -55,19 +56,19 @@ message_of() {
 # 369 = 4; e5 is an X with a J of all, !5 the same with a wrong sum, and entries_of has the others; +60 is a minute without messages, +-3
 # sets the times back; what begins with -- is an option.
 channel() {
-    told=$1 status=$2 seconds=0 options=
+    told=$1 status=$2 seconds=0 given=
     shift 2
     for piece in "$@"; do
         case $piece in
-        --*) options="$options $piece" ;;
+        --*) given="$given $piece" ;;
         +*) seconds=$((seconds + ${piece#+})) ;;
         *) message_of "$piece" "20250103-12:0$((seconds / 60)):$(printf %02d $((seconds % 60)))" ;;
         esac
         seconds=$((seconds + 1))
     done >"$work/channel.txt"
-    # The options are split.
+    # The options that are given are split.
     # shellcheck disable=SC2086
-    recorded channel && ends "$status" replay --instruments 7,8 $options "$work/channel.fix" || return 1
+    recorded channel && ends "$status" replay --instruments 7,8 $given "$work/channel.fix" || return 1
     sed -n 's/^            empty book for the whole channel: \([0-9]*\) Live books* emptied$/\1/p
         s/^            empty book for the whole channel, and all are Waiting$/0/p' "$work/out" | xargs >"$work/told"
     if echo "$told" | xargs | diff - "$work/told" && [ "$(grep -c 'empty book' "$work/out")" -eq "$(wc -w <"$work/told")" ]; then
@@ -97,6 +98,10 @@ check "channel: one that waits and goes Live later" channel 1 0 n1 w7@1 e2 w8@1
 check "channel: its snapshot is emptied" grep -q '^8                  bid                 empty ' "$work/out"
 check "channel: a snapshot that has it already" channel 1 0 n1 w7@1 e2 w8@2
 check "channel: its bid stays" grep -q '^8                  bid                 24.01 ' "$work/out"
+check "channel: with it the queue is let go" channel 1 0 n1 w7@1 f2 f3 f4 f5 e6
+check "channel: it is answered 3" grep -q ' X     34=6                            1   3 counted, queue let go$' "$work/out"
+check "channel: the Live book is emptied all the same" grep -q '^7                  bid                 empty ' "$work/out"
+check "channel: with it the queue is let go, and all are Waiting" channel 0 4 n1 f2 f3 f4 f5 e6
 check "channel: not of one instrument" channel '' 0 n1 w7@1 w8@1 i2
 check "channel: that one is empty, the other not" grep -q '^7                  bid                 empty ' "$work/out"
 check "channel: the other keeps its bid" grep -q '^8                  bid                 24.01 ' "$work/out"
