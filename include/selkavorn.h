@@ -42,8 +42,10 @@
  *   A J with 48 and 22, and 207 if it stands, is of one instrument, as bids and offers are. One
  *   without 48, 22 and 207 is of all that are followed: at that point of the message it empties the
  *   book of each that is Live, which stays Live. One that is Waiting stays as it is. In the queue
- *   such a J is one entry. It joins while any instrument waits, also where its message has no other
- *   entry, and replay applies it to whichever instrument takes a snapshot with S below its number.
+ *   such a J is one entry. It joins if any waits when its message is counted (after a gap all do),
+ *   also where that has no other entry, and replay applies it to whichever instrument takes a
+ *   snapshot with S below its number. A J without 48 that has 22 or 207 is refused (14), as is a
+ *   bid or offer without 48.
  *   A price (270) is a minus or nothing, 1 to 9 digits, then nothing or a point and 1 to 8 digits.
  *
  * Instruments with no snapshot ("A whole loop")
