@@ -97,19 +97,30 @@ void set_loop(Fields &fields, const plain_loop &loop, Draw &draw) {
 
 bool begins_entry(const std::string &f) { return f.compare(0, 4, "279=") == 0; }
 
-// Puts an empty book of all instruments before one of the entries of an X or behind the last; now and then it stands alone.
-void add_empty(Fields &fields, Draw &draw) {
+// Puts an empty book of all instruments before one of the entries of an X or behind the last; now and then it stands alone. Says whether
+// it has 22 or 207, which must not stand in it.
+bool add_empty(Fields &fields, Draw &draw) {
+    const unsigned wrong = draw.below(24);
     if (draw.below(3) == 0) fields.erase(std::find_if(fields.begin(), fields.end(), begins_entry), fields.end());
     std::vector<size_t> places = {fields.size()};
     for (size_t i = 0; i < fields.size(); i++)
         if (begins_entry(fields[i])) places.push_back(i);
     set(fields, 268, places.size());
-    const Fields entry = empty_of_all(draw.below(5));
+    Fields entry = empty_of_all(draw.below(5));
+    if (wrong == 0 || wrong == 2) entry.push_back(field(22, "8"));
+    if (wrong == 1 || wrong == 2) entry.push_back(field(207, "BVMF"));
     fields.insert(fields.begin() + static_cast<long>(places[draw.below(static_cast<unsigned>(places.size()))]), entry.begin(), entry.end());
+    return wrong <= 2;
 }
 
+// A message that is drawn.
+struct Drawn {
+    std::string bytes;
+    bool wrong; // an X, not harmed, with an empty book that has 22 or 207 and no 48: it must be refused
+};
+
 // The next message: an X, a snapshot or a heartbeat, numbered after what the board holds, and often harmed.
-std::string next(const Source &source, const plain_board &board, Draw &draw) {
+Drawn next(const Source &source, const plain_board &board, Draw &draw) {
     const unsigned sort = draw.below(10);
     const Stream &stream = draw.below(16) == 0 ? source.most : draw.below(2) ? source.few : source.many;
     const unsigned jump = draw.below(60), back = draw.below(3);
@@ -119,7 +130,7 @@ std::string next(const Source &source, const plain_board &board, Draw &draw) {
     Fields fields = type == 'W' ? middle(draw.below(20) ? stream.snapshots[draw.below(INSTRUMENTS)] : source.over)
                                 : middle(changes[draw.below(static_cast<unsigned>(changes.size()))]);
     if (type == '0') fields.resize(4);
-    if (type == 'X' && draw.below(24) == 0) add_empty(fields, draw);
+    bool wrong = type == 'X' && draw.below(24) == 0 && add_empty(fields, draw);
     if (type == 'W') {
         set(fields, 369, back == 0 ? board.complete : back == 1 ? board.number : std::max<uint64_t>(board.number, 1) - 1);
         if (draw.below(20) == 0) set(fields, 369, draw.below(2) ? board.number + 1 : std::max<uint64_t>(board.complete, 1) - 1);
@@ -129,12 +140,17 @@ std::string next(const Source &source, const plain_board &board, Draw &draw) {
         set(fields, 34, number);
     }
     if (draw.below(40) == 0) type = "AVfyB0"[draw.below(6)];
-    for (unsigned harms = draw.below(4); harms > 1; harms--) harm_fields(fields, draw);
+    wrong = wrong && type == 'X';
+    for (unsigned harms = draw.below(4); harms > 1; harms--) {
+        harm_fields(fields, draw);
+        wrong = false;
+    }
     std::string joined;
     for (const std::string &f : fields) joined += f;
     std::string bytes = message(type, joined);
-    if (draw.below(8) == 0) harm_bytes(bytes, draw);
-    return bytes;
+    if (draw.below(8) != 0) return {bytes, wrong};
+    harm_bytes(bytes, draw);
+    return {bytes, false};
 }
 
 // Counts what a snapshot brought to those that waited and that its loop does not name: it changes them at the end of the loop alone.
@@ -152,16 +168,23 @@ void count_end(const plain_board &was, const plain_board &is, Brought &brought) 
 
 int places(const plain_board &board, uint32_t i) { return static_cast<int>(board.sides[i][0].held + board.sides[i][1].held); }
 
+// The number in 369 of a snapshot that was taken.
+uint64_t last_of(const std::string &snapshot) {
+    const std::string start = SOH + std::string("369=");
+    return std::stoull(snapshot.substr(snapshot.find(start) + start.size()));
+}
+
 // Counts what empty books of all instruments brought, by a message with this answer.
-void count_empties(const plain_board &was, const plain_board &is, uint64_t answer, Brought &brought) {
-    auto of_all = [](const plain_entry &e) { return e.kind == PLAIN_EMPTY_ALL; };
-    auto joined = [&was, of_all](const plain_entry &e) { return of_all(e) && e.number > was.number; };
+void count_empties(const plain_board &was, const plain_board &is, const std::string &bytes, uint64_t answer, Brought &brought) {
+    auto is_above = [](uint64_t number) {
+        return [number](const plain_entry &e) { return e.kind == PLAIN_EMPTY_ALL && e.number > number; };
+    };
     int lost = 0;
     for (uint32_t i = 0; i < is.followed; i++)
         lost += !((was.waiting | is.waiting) >> i & 1) && places(was, i) > 0 && places(is, i) == 0;
     brought.emptied += lost > 1;
-    brought.queued += is.number > was.number && std::any_of(is.queue, is.queue + is.queued, joined);
-    brought.met += answer == SELKAVORN_TAKEN && std::any_of(was.queue, was.queue + was.queued, of_all);
+    brought.queued += is.number > was.number && std::any_of(is.queue, is.queue + is.queued, is_above(was.number));
+    brought.met += answer == SELKAVORN_TAKEN && std::any_of(was.queue, was.queue + was.queued, is_above(last_of(bytes)));
 }
 
 } // namespace
@@ -182,7 +205,8 @@ std::string disagreement(Depth depth, int messages, Brought &brought) {
             selkavorn_open(store.data(), store.size(), depth, ids.data(), ids.size());
             plain_open(&board, static_cast<plain_depth>(depth), ids.data(), ids.size());
         }
-        const std::string bytes = next(source, board, draw);
+        const Drawn drawn = next(source, board, draw);
+        const std::string &bytes = drawn.bytes;
         const uint8_t *const at = reinterpret_cast<const uint8_t *>(bytes.data());
         const plain_board was = board;
         const uint64_t ours = selkavorn_feed(store.data(), store.size(), at, bytes.size());
@@ -190,9 +214,11 @@ std::string disagreement(Depth depth, int messages, Brought &brought) {
         const uint64_t answer = SELKAVORN_ANSWER(ours);
         brought.answers[answer]++;
         if (answer >= SELKAVORN_TAKEN && answer <= SELKAVORN_REPLAY_BROKE) count_end(was, board, brought);
-        count_empties(was, board, answer, brought);
+        count_empties(was, board, bytes, answer, brought);
+        brought.refused += drawn.wrong;
         std::string differs;
         if (ours != theirs) differs = "answered " + std::to_string(ours) + " and " + std::to_string(theirs);
+        else if (drawn.wrong && answer != SELKAVORN_FIELDS) differs = "both answered " + std::to_string(ours) + ", which must be 14";
         else if ((n + 1) % BETWEEN == 0 || n + 1 == messages) differs = difference(store, seen(board));
         if (!differs.empty()) return "message " + std::to_string(n + 1) + ": " + differs + ": " + bytes;
     }

@@ -13,8 +13,8 @@ struct Brought {
     // those that broke.
     int empty = 0, replayed = 0, broke = 0;
     // Empty books of all instruments: messages by which two Live books or more lost all their places, those of which one joined the queue,
-    // and snapshots that were taken while one was queued.
-    int emptied = 0, queued = 0, met = 0;
+    // snapshots that were taken while one above their 369 was queued, and messages that were refused because one had 22 or 207.
+    int emptied = 0, queued = 0, met = 0, refused = 0;
 };
 
 // Feeds as many drawn messages to both. Says where they first differ, in an answer or in what they then hold, or nothing.

@@ -546,11 +546,12 @@ void agree() {
         for (uint64_t answer = 0; answer <= SELKAVORN_FIELDS; answer++)
             if (brought.answers[answer] == 0) fail("no message was answered " + std::to_string(answer));
         if (brought.empty == 0 || brought.replayed == 0 || brought.broke == 0) fail("the ends of loops brought too little");
-        if (brought.emptied == 0 || brought.queued == 0 || brought.met == 0) fail("empty books of all instruments brought too little");
+        if (brought.emptied == 0 || brought.queued == 0 || brought.met == 0 || brought.refused == 0)
+            fail("empty books of all instruments brought too little");
         for (const auto &counted : brought.answers)
             std::printf("%d\t%d\t%d\n", depth, static_cast<int>(counted.first), counted.second);
         std::printf("%d\tends of loops\t%d\t%d\t%d\n", depth, brought.empty, brought.replayed, brought.broke);
-        std::printf("%d\tempty books of all\t%d\t%d\t%d\n", depth, brought.emptied, brought.queued, brought.met);
+        std::printf("%d\tempty books of all\t%d\t%d\t%d\t%d\n", depth, brought.emptied, brought.queued, brought.met, brought.refused);
     }
 }
 
