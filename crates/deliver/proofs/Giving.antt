@@ -95,7 +95,7 @@ module _ (s : State) (f : Formed s) (u : Update) (i : ℕ) (l : i < s .head .fol
           rw g (sym (ap (λ (y : Inst). put i y (boardIn s)) (hit-waiting u (at i (boardIn s)) x) ∙ put-same i (boardIn s)))
       go false g = rw g (land-board g)
 
--- whoever gets it, the numbers of the heading but the marks stay
+-- whoever gets it, as many are followed and queued as before
 to-head : (i : ℕ) (u : Update) (s : State)
     → (giveToS i u s .head .followed ≡ s .head .followed) × (giveToS i u s .head .queued ≡ s .head .queued)
 to-head i u s =

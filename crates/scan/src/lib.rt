@@ -227,9 +227,9 @@ fn update(store: &[u64], at: usize, most: u64, full: u64) -> bool
     let place = store[at + 3];
     if book::OFFER < what {
         let who = store[at];
-        let named = (what == book::J) | ((what == book::J_FOR_ALL) & (who == 0));
+        let is_j = (what == book::J) | ((what == book::J_FOR_ALL) & (who == 0));
         let none = sides::zero(store, at + cells::UPDATE_ENTRY, cells::ENTRY);
-        return named & (action == 0) & (place == 0) & none;
+        return is_j & (action == 0) & (place == 0) & none;
     }
     if MOST_ACTION < action {
         return false;
