@@ -53,7 +53,9 @@ look-same d e xs h = go (eqb e d) refl
 
 -- an entry for all has the same who wherever it is aimed
 to-all : (i j : ℕ) (u : Update) → forAll u ≡ true → to i u ≡ to j u
-to-all i j u e = rw e
+to-all i j u e =
+    ap (λ (k : ℕ). record { who = k; what = u .what; action = u .action; place = u .place; entry = u .entry })
+    (ap (λ (a : Bool). cond a 0 i) e ∙ sym (ap (λ (a : Bool). cond a 0 j) e))
 
 -- a message's entries for d, aimed, are those for its index
 pub mine-aimed : (d : ℕ) (xs : List Inst) → look d xs < length xs → (us : List Update)

@@ -237,7 +237,7 @@ snap-sound d S us b s f = snap-by (λ o. Sound (o .board)) d S (shown us) b go
     go true true false false false g _ _ e = taken (ltb-true i (length (b .insts)) g) e
 
 -- who an entry is for plays no part in its range, and one for all keeps 0
-aimed-empty : (xs : List Inst) (u : Update) → emptyFine u ≡ true → emptyFine (aimed xs u) ≡ true
+aimed-empty : (xs : List Inst) (u : Update) → emptyFine (u .who) (u .what) ≡ true → emptyFine (aimed xs u .who) (u .what) ≡ true
 aimed-empty xs u = go (eqb (u .what) 2) (forAll u) (eqb (u .who) 0)
   where
     go : (j a z : Bool) → j || (a && z) ≡ true → j || (a && eqb (cond a 0 (look (u .who) xs)) 0) ≡ true
@@ -247,7 +247,7 @@ aimed-empty xs u = go (eqb (u .what) 2) (forAll u) (eqb (u .who) 0)
 
 aimed-fine : (depth : ℕ) (xs : List Inst) (u : Update) → Fine depth u → updateFine depth (aimed xs u) ≡ true
 unfolding updateFine
-aimed-fine depth xs u = go (leb (u .what) 1) (emptyFine u) (emptyFine (aimed xs u)) _ _ (aimed-empty xs u)
+aimed-fine depth xs u = go (leb (u .what) 1) (emptyFine (u .who) (u .what)) (emptyFine (aimed xs u .who) (u .what)) _ _ (aimed-empty xs u)
   where
     go : (w p q a r : Bool) → (p ≡ true → q ≡ true) → cond w a (p && r) ≡ true → cond w a (q && r) ≡ true
     go true p q a r k h = h

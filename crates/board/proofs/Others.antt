@@ -47,16 +47,6 @@ pub at-settled : (i : ℕ) (w : Bool) (b c : Board) → at i b ≡ at i c → at
 at-settled i false b c e = e
 at-settled i true b c e = by-test (λ d. at i d ≡ at i c) (anyWaiting (b .insts)) (λ _. e) (λ _. e)
 
-at-joined : (i : ℕ) (over : Bool) (n : ℕ) (us : List Update) (b : Board) → at i (joined over n us b) ≡ at i b
-at-joined i true n us b = refl
-at-joined i false n us b = refl
-
-pub count-own-only : (i a n heard : ℕ) (us : List Update) (b : Board) → mine i us ≡ [] → at i (count a n heard us b .board) ≡ at i b
-count-own-only i a n heard us b e =
-    let c = counted n heard b in
-    count-is (λ o. at i (o .board) ≡ at i b) a n heard us b (λ _. at-settled i false (gives us c) b (gives-own-only i us c e))
-    (λ over _. at-settled i true (gives us (joined over n us c)) b (gives-own-only i us (joined over n us c) e ∙ at-joined i over n us c))
-
 in-order : (n heard : ℕ) (us : List Update) (b : Board) → n ≡ b .H + 1 → number n heard us b ≡ count 0 n heard us b
 unfolding number
 in-order n heard us b e =
@@ -126,17 +116,20 @@ none-mine d (u ∷ us) h =
     ∙ none-mine d us (h .1)
 
 pub others-stay : OthersStay
-unfolding feed
+unfolding feed hits
 others-stay d n heard us b e h =
-    let m = map (aimed (b .insts)) us in
+    let xs = b .insts in
+    let i = look d xs in
+    let m = map (aimed xs) us in
     let c = feed (numbered n heard us) b .board in
     let s = same-feed (numbered n heard us) b in
-    let k = ap (λ (i : ℕ). at i c) (same-look d c b s) in
-    by-index (look d (b .insts)) b (inst d c ≡ inst d b)
+    let k = ap (λ (j : ℕ). at j c) (same-look d c b s) in
+    by-index i b (inst d c ≡ inst d b)
     (λ l. k
-    ∙ ap (λ (o : Out). at (look d (b .insts)) (o .board)) (in-order n heard m b e)
-    ∙ count-own-only (look d (b .insts)) 0 n heard m b (mine-aimed d (b .insts) l us ∙ ap (map (to (look d (b .insts)))) (none-mine d us h)))
-    (λ l. k ∙ none-past (look d (b .insts)) b c s l)
+    ∙ ap (λ (o : Out). at i (o .board)) (in-order n heard m b e)
+    ∙ count-at i n heard 0 m b l
+    ∙ ap (λ (v : List Update). hits v (at i b)) (mine-aimed d xs l us ∙ ap (map (to i)) (none-mine d us h)))
+    (λ l. k ∙ none-past i b c s l)
 
 -- Snapshots
 

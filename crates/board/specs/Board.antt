@@ -4,7 +4,7 @@ use mathlib.Core.List.{List, [], _∷_, map}
 use Prim.Native.Nat.{ℕ, _+_}
 use lib.Dec.{eqb}
 use lib.ListN.{getD, set}
-use Rattle.book.specs.Rules.{Lists, empty, forAll}
+use Rattle.book.specs.Rules.{Lists, empty, isFor}
 use Rattle.book.specs.declared.Update.{Update}
 
 -- A followed instrument: its SecurityID, whether it is Waiting (else Live), why it last broke (0, 1 or 2), its book.
@@ -62,9 +62,9 @@ unfoldable pub look : ℕ → List Inst → ℕ
 look d [] = 0
 look d (x ∷ xs) = cond (eqb (x .id) d) 0 (look d xs + 1)
 
--- An entry speaks of the instrument that it names, by SecurityID in a message and by index on a board; one for all speaks of every one.
+-- An entry speaks of the instruments that it is for.
 abbrev pub speaksOf : ℕ → Update → Bool
-speaksOf d u = forAll u || eqb (u .who) d
+speaksOf d u = isFor d (u .who) (u .what)
 
 -- The instrument at an index.
 abbrev pub noInst : Inst

@@ -4,7 +4,7 @@ use mathlib.Core.List.{List, [], _∷_, _++_, map}
 use Prim.Native.Nat.{ℕ, _+_, _-_}
 use lib.Dec.{ltb, leb}
 use lib.ListN.{length, getD, set}
-use Rattle.book.specs.Rules.{Lists, empty, Outcome, leaves, breach, forAll, applied}
+use Rattle.book.specs.Rules.{Lists, empty, Outcome, leaves, breach, isForAll, forAll, applied}
 use Rattle.book.specs.declared.Update.{Update}
 use Rattle.board.specs.Board.{Inst, Queued, Board, Out, out, anyWaiting, look, noInst, withInsts, withQueue, broken, letGo, settled}
 
@@ -12,9 +12,13 @@ use Rattle.board.specs.Board.{Inst, Queued, Board, Out, out, anyWaiting,
 abbrev pub mostQueued : ℕ
 mostQueued = 256
 
--- An entry with another who; one for all has 0.
+-- The index that an entry has on a board: that of its instrument, and 0 where it is for all.
+abbrev pub indexOf : ℕ → ℕ → ℕ
+indexOf what i = cond (isForAll what) 0 i
+
+-- An entry with another index.
 abbrev pub to : ℕ → Update → Update
-to i u = record { who = cond (forAll u) 0 i; what = u .what; action = u .action; place = u .place; entry = u .entry }
+to i u = record { who = indexOf (u .what) i; what = u .what; action = u .action; place = u .place; entry = u .entry }
 
 -- An entry of a message with the index of its instrument for the SecurityID.
 abbrev pub aimed : List Inst → Update → Update

@@ -7,7 +7,7 @@ use lib.IntN.{ℤ, natAbs}
 use lib.ListN.{length}
 use Rattle.book.specs.declared.Entry.{Entry}
 use Rattle.book.specs.declared.Update.{Update}
-use Rattle.book.specs.Rules.{forAll}
+use Rattle.book.specs.Rules.{isForAll, forAll}
 use Rattle.holding.specs.Prices.{top}
 use Rattle.holding.specs.Moments.{moments}
 use Rattle.holding.specs.OrderIds.{idSound}
@@ -60,15 +60,15 @@ unfoldable pub noneFine : Entry → Bool
 noneFine e = eqb (natAbs (e .price)) 0 && (eqb (e .size) 0 && (eqb (e .by) 0 && (eqb (e .more) 0 && eqb (e .moment) 0)))
 
 -- J of one instrument (2), or for all, and then it names none.
-abbrev pub emptyFine : Update → Bool
-emptyFine u = eqb (u .what) 2 || (forAll u && eqb (u .who) 0)
+abbrev pub emptyFine : ℕ → ℕ → Bool
+emptyFine who what = eqb what 2 || (isForAll what && eqb who 0)
 
 -- What an entry of an X says: a bid (0) or an offer (1) with its action and 290, where new and change need their values; or J.
 unfoldable pub updateFine : ℕ → Update → Bool
 updateFine depth u =
     cond (leb (u .what) 1)
     (leb (u .action) 4 && (within 1 65535 (u .place) && cond (leb (u .action) 1) (entryFine depth (u .entry)) (noneFine (u .entry))))
-    (emptyFine u && (eqb (u .action) 0 && (eqb (u .place) 0 && noneFine (u .entry))))
+    (emptyFine (u .who) (u .what) && (eqb (u .action) 0 && (eqb (u .place) 0 && noneFine (u .entry))))
 
 -- An entry of a W: a bid or an offer, all new.
 unfoldable pub shownFine : ℕ → Update → Bool

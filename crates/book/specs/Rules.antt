@@ -1,6 +1,6 @@
 -- "A side of a book" of document 01: what each operation does to the list of the n entries held, place 1 first.
 -- What a breach does to the instrument is the board's to say.
-use mathlib.Core.Bool.{Bool, cond, _&&_}
+use mathlib.Core.Bool.{Bool, cond, _&&_, _||_}
 use mathlib.Core.List.{List, [], _∷_, _++_}
 use Prim.Native.Nat.{ℕ, _+_, _-_}
 use lib.Dec.{leb, ltb, eqb}
@@ -95,6 +95,10 @@ isForAll what = eqb what emptyOfAll
 
 abbrev pub forAll : Update → Bool
 forAll u = isForAll (u .what)
+
+-- An entry is for the instrument that it names, by SecurityID in a message and by index on a board; one for all is for every one.
+abbrev pub isFor : ℕ → ℕ → ℕ → Bool
+isFor d who what = isForAll what || eqb who d
 
 -- One entry on a book: 0 works the bids, 1 the offers, and any other is J, of one instrument or for all, which empties both sides.
 unfoldable pub applied : Lists → Update → Outcome Lists

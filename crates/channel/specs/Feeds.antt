@@ -1,14 +1,12 @@
 -- A message that was read, on the store.
 use mathlib.Core.Path.{_≡_}
-use mathlib.Core.Bool.{cond}
 use mathlib.Core.List.{List, map}
 use Prim.Native.Nat.{ℕ, _*_, _≤_}
 use lib.ListN.{length, getD, take, drop}
-use Rattle.book.specs.Rules.{isForAll}
 use Rattle.book.specs.declared.Update.{Update}
 use Rattle.message.specs.Message.{Message, numbered, snapshot, refused, answerOf}
 use Rattle.board.specs.Board.{out, look}
-use Rattle.board.specs.Count.{aimed}
+use Rattle.board.specs.Count.{indexOf, aimed}
 use Rattle.board.specs.Feed.{feed}
 use Rattle.cells.specs.Runs.{updateSize, updatesIn}
 use Rattle.store.specs.Layout.{storeSize, headingSize}
@@ -18,9 +16,9 @@ use Rattle.store.specs.Answers.{FedS, fed}
 use Rattle.count.specs.Counts.{numberS}
 use Rattle.taking.specs.Replays.{snapS}
 
--- The index of the instrument with this SecurityID; an entry for all has 0.
+-- The index of an entry that has this SecurityID.
 abbrev pub indexIn : State → ℕ → ℕ → ℕ
-indexIn s id what = cond (isForAll what) 0 (look id (boardIn s .insts))
+indexIn s id what = indexOf what (look id (boardIn s .insts))
 
 -- The entries with the index of their instrument for the SecurityID.
 abbrev pub aimedAt : State → List Update → List Update

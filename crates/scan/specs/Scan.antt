@@ -5,9 +5,8 @@ use mathlib.Core.List.{List}
 use Prim.Native.Nat.{ℕ, zero, suc, _+_, _*_, _-_, _/_, _^_}
 use lib.Dec.{ltb, leb, eqb}
 use lib.ListN.{length, getD}
-use Rattle.book.specs.Rules.{isForAll}
 use Rattle.cells.specs.Cells.{tab}
-use Rattle.board.specs.Ranges.{within, mostNumber, idFine, momentFine}
+use Rattle.board.specs.Ranges.{within, mostNumber, idFine, momentFine, emptyFine}
 use Rattle.board.specs.Sound.{distinct}
 use Rattle.sides.specs.Side.{each, allZero, entryScan, sideScan, roomOf}
 use Rattle.loops.specs.Sound.{soundLoop}
@@ -69,10 +68,6 @@ booksScan most full xs =
 
 -- ---- the queue
 
--- J of one instrument (2), or for all, which names none: its who is 0.
-abbrev pub emptyScan : ℕ → ℕ → Bool
-emptyScan who what = eqb what 2 || (isForAll what && eqb who 0)
-
 -- The 9 numbers from `at` on: who, what, action, place and the entry, which is needed of a new or a change of a bid or an offer alone.
 unfoldable pub updateScan : ℕ → ℕ → List ℕ → ℕ → Bool
 updateScan most full xs at =
@@ -80,7 +75,7 @@ updateScan most full xs at =
     (leb (getD xs (at + 2) 0) 4
     && (within 1 65535 (getD xs (at + 3) 0)
     && cond (leb (getD xs (at + 2) 0) 1) (entryScan most full xs (at + 4)) (allZero xs (at + 4) 5)))
-    (emptyScan (getD xs at 0) (getD xs (at + 1) 0) && eqb (getD xs (at + 2) 0) 0 && eqb (getD xs (at + 3) 0) 0 && allZero xs (at + 4) 5)
+    (emptyFine (getD xs at 0) (getD xs (at + 1) 0) && eqb (getD xs (at + 2) 0) 0 && eqb (getD xs (at + 3) 0) 0 && allZero xs (at + 4) 5)
 
 -- A queued entry whose number lies in `low` to `high`, its who below n, with its spare number.
 unfoldable pub slotScan : ℕ → ℕ → ℕ → ℕ → ℕ → List ℕ → ℕ → Bool

@@ -14,10 +14,10 @@ use Rattle.holding.specs.Prices.{heldTop, ofHeld}
 use Rattle.holding.proofs.Holding.{held-of-held, held-small, small-held}
 use Rattle.holding.specs.OrderIds.{top, full, idSound}
 use Rattle.cells.specs.Cells.{entryAt, updateAt}
-use Rattle.board.specs.Ranges.{within, mostOrders, priceFine, momentFine, ordersFine, byFine, entryFine, noneFine, updateFine}
+use Rattle.board.specs.Ranges.{within, mostOrders, priceFine, momentFine, ordersFine, byFine, entryFine, noneFine, emptyFine, updateFine}
 use Rattle.board.proofs.Tested.{both}
 use Rattle.sides.specs.Side.{each, allZero, moreTo, entryScan}
-use Rattle.scan.specs.Scan.{mostOf, fullOf, emptyScan, updateScan}
+use Rattle.scan.specs.Scan.{mostOf, fullOf, updateScan}
 
 -- ---- Bools
 
@@ -121,5 +121,5 @@ update-test depth xs at =
     rw (
       entry-test depth xs (at + 4),
       none-test xs (at + 4),
-      four (emptyScan (getD xs at 0) (getD xs (at + 1) 0)) (eqb (getD xs (at + 2) 0) 0) (eqb (getD xs (at + 3) 0) 0) (noneFine (entryAt xs (at + 4))),
+      four (emptyFine (getD xs at 0) (getD xs (at + 1) 0)) (eqb (getD xs (at + 2) 0) 0) (eqb (getD xs (at + 3) 0) 0) (noneFine (entryAt xs (at + 4))),
     )

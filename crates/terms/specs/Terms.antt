@@ -1,8 +1,8 @@
 -- The terms of a snapshot with 369 = S for the instrument at index i (document 01, "Numbers, queue and marks").
-use mathlib.Core.Bool.{Bool, cond, _&&_, _||_}
+use mathlib.Core.Bool.{Bool, cond, _&&_}
 use Prim.Native.Nat.{ℕ}
-use lib.Dec.{ltb, leb, eqb}
-use Rattle.book.specs.Rules.{isForAll}
+use lib.Dec.{ltb, leb}
+use Rattle.book.specs.Rules.{isFor}
 use Rattle.heading.specs.declared.Heading.{Heading}
 use Rattle.heading.specs.Marks.{marked}
 
@@ -13,4 +13,4 @@ refusalOf h i S =
 
 -- A queued entry is applied if it is for all or for instrument i, and numbered above S.
 abbrev pub due : ℕ → ℕ → ℕ → ℕ → ℕ → Bool
-due i S who what n = (isForAll what || eqb who i) && ltb S n
+due i S who what n = isFor i who what && ltb S n
