@@ -1,3 +1,6 @@
 pub mod Width
+pub mod Words
 pub mod Steps
+pub mod Few
+pub mod Parts
 pub mod Ranges

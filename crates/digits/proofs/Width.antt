@@ -7,6 +7,7 @@ use native.Mathlib.Nat.{pow-suc, add-suc, suc-add, add-zero, zero-add, pow-le-po
 use native.Mathlib.Numerals.{add-one}
 use native.Mathlib.Omega.{arith}
 use lib.Dec.{leb, eqb}
+use lib.Pow.{pow-add}
 use borrow.Author.Tests.{leb-true}
 use lib.ListN.{length, getD}
 use Rattle.digits.specs.Digits.{isDigit, allDigits, value, digitsOf, wholeOf}
@@ -15,6 +16,10 @@ use Rattle.digits.specs.declared.Number.the-variants.{Is, No}
 -- one digit more
 pub push : (k : ℕ) {v d : ℕ} → v < 10 ^ k → d < 10 → v * 10 + d < 10 ^ (k + 1)
 push k h l = rw (add-one, pow-suc) (omega arith)
+
+-- four more
+pub push-four : (k : ℕ) {v w : ℕ} → v < 10 ^ k → w < 10000 → v * 10000 + w < 10 ^ (k + 4)
+push-four k h l = rw (pow-add 10 k 4) (omega arith)
 
 -- at most 18 digits, and one more, fit 64 bits
 pub small : {j : ℕ} → j ≤ 18 → 10 ^ j ≤ 1000000000000000000
@@ -25,14 +30,14 @@ both true b h = (refl, h)
 both false b h = absurd (false≢true h)
 
 -- what digits write after v, which k digits wrote
-value-lt : (bs : List ℕ) (k v : ℕ) → allDigits bs ≡ true → v < 10 ^ k → value v bs < 10 ^ (k + length bs)
+pub value-lt : (bs : List ℕ) (k v : ℕ) → allDigits bs ≡ true → v < 10 ^ k → value v bs < 10 ^ (k + length bs)
 value-lt [] k v h l = rw add-zero l
 value-lt (b ∷ bs) k v h l =
     let d = both (isDigit b) (allDigits bs) h in
     let e = both (leb 48 b) (leb b 57) (d .0) in
     rw (add-suc, ← suc-add) (value-lt bs (suc k) (v * 10 + (b - 48)) (d .1) (rw add-one at (push k {d = b - 48} l (omega (arith, leb-true b 57 (e .1))))))
 
-cond-is : (t : Bool) (x v : ℕ) → cond t (Is x) No ≡ Is v → (t ≡ true) × (x ≡ v)
+pub cond-is : (t : Bool) (x v : ℕ) → cond t (Is x) No ≡ Is v → (t ≡ true) × (x ≡ v)
 cond-is true x v h = (refl, cc)
 cond-is false x v h = let z : _≡_ {A = ℕ} 0 1 = cc in absurd (omega arith)
 
