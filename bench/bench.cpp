@@ -1,7 +1,7 @@
 // bench time DICTIONARY ROUNDS: the time of one call, the proved code beside its peers on the same bytes in the same run.
 // bench count DICTIONARY [FEW]: the same calls once each, for callgrind to count their instructions; with FEW, of few cases.
-// bench agree: whether the plain reader in C answers what the proved code does; says how often each answer came, and what the ends of
-// loops and empty books of all instruments brought.
+// bench agree: whether the plain reader in C, and the plain loop over digits, answer what the proved code does; says how often each answer
+// came, and what the ends of loops and empty books of all instruments brought.
 // bench recordings: whether it finds the same pieces in each recording; says what the recordings hold.
 // `time` writes a table of tab-separated columns; a call of `count` is named in callgrind's own file by the same columns.
 #include <algorithm>
@@ -13,6 +13,7 @@
 #include <valgrind/callgrind.h>
 
 #include "agree.hpp"
+#include "digits.h"
 #include "loop.h"
 #include "peer.hpp"
 #include "plain.h"
@@ -22,6 +23,7 @@
 #include "selkavorn_lots.h"
 #include "store.hpp"
 #include "streams.hpp"
+#include "values.hpp"
 #include "walk.hpp"
 
 namespace {
@@ -437,6 +439,34 @@ void measure_scans(const Measure &measure) {
     measure(all);
 }
 
+std::string columns(const Values &v, const char *what) {
+    const std::string lengths = (v.shortest == v.longest ? "" : std::to_string(v.shortest) + " to ") + std::to_string(v.longest);
+    const size_t digits = v.text.size() - v.places.size(); // each value has a SOH behind it
+    return "values\t" + lengths + "\t" + (v.good ? "good" : "bad") + "\t" +
+           std::to_string(static_cast<double>(digits) / static_cast<double>(v.places.size())) + "\t" + what;
+}
+
+// A reader of digits on all values, one after the other. Its call is not known to the compiler, so that it is made each time.
+template <uint64_t (*READ)(const uint8_t *, size_t)> Measured measured_reader(const Values &v, const char *what, uint64_t sum) {
+    auto round = [&v, sum] {
+        uint64_t read = 0;
+        for (const Place &place : v.places) read += READ(bytes(v.text) + place.from, place.length);
+        return read == sum;
+    };
+    return {columns(v, what), v.places.size(), [] {}, round, {}};
+}
+
+// The proved reader of digits beside its peer, and once a call that reads nothing.
+void measure_digits(const Measure &measure) {
+    const std::vector<Values> sorts = make_values();
+    std::vector<Measured> all = {measured_reader<no_digits>(sorts[0], "nothing", 0)};
+    for (const Values &v : sorts) {
+        all.push_back(measured_reader<selkavorn_gauge_digits>(v, "digits", v.sum));
+        all.push_back(measured_reader<plain_digits>(v, "plain digits", v.sum));
+    }
+    measure(all);
+}
+
 // A recording as it is walked: as it was recorded, or with one byte in 1,000 or in 10 damaged.
 struct Walked {
     const char *what;
@@ -518,7 +548,7 @@ void time_all(std::vector<Measured> &all, int rounds) {
             double to = thread_ns();
             m.ns.push_back((to - from) / static_cast<double>(m.calls));
         }
-    for (Measured &m : all) std::printf("%s\t%.1f\n", m.what.c_str(), middle_mean(m.ns));
+    for (Measured &m : all) std::printf("%s\t%.2f\n", m.what.c_str(), middle_mean(m.ns));
     std::fflush(stdout);
 }
 
@@ -536,9 +566,11 @@ void count_all(std::vector<Measured> &all) {
     }
 }
 
-// Fails where the plain reader answers or holds something else, or where an answer never came, or the ends of loops or empty books of all
+// Fails where a plain reader answers or holds something else, or where an answer never came, or the ends of loops or empty books of all
 // instruments brought too little; prints the messages by answer, and what those brought.
 void agree() {
+    const std::string read = reading_difference();
+    if (!read.empty()) fail("the plain loop over digits differs: " + read);
     for (Depth depth : {ORDER_DEPTH, PRICE_DEPTH}) {
         Brought brought;
         const std::string differs = disagreement(depth, AGREED, brought);
@@ -599,6 +631,7 @@ int main(int argc, char **argv) {
     FIX::DataDictionary dictionary(argv[2]);
     if (count && few) {
         for (int entries : {1, 10}) measure_case({ORDER_DEPTH, entries, 0}, dictionary, measure);
+        measure_digits(measure);
         return 0;
     }
     for (int waiting : {0, 1})
@@ -611,5 +644,6 @@ int main(int argc, char **argv) {
         measure_empties(depth, measure);
     }
     measure_scans(measure);
+    measure_digits(measure);
     measure_recordings(count ? COUNTED_BYTES : RECORDED_BYTES, dictionary, seldom);
 }

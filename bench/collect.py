@@ -13,10 +13,13 @@ def rows(path):
 
 
 def named(key):
-    """What a row is of: a recording, or a call on a board."""
+    """What a row is of: a recording, values of digits, or a call on a board."""
     if key[0] == "recording":
         _, recording, what = key
         return {"recording": recording, "what": what}
+    if key[0] == "values":
+        _, digits, sort, mean, what = key
+        return {"digits": digits, "sort": sort, "bytes": float(mean), "what": what}
     depth, entries, waiting, size, what = key
     return {"depth": depth, "entries": int(entries), "waiting": int(waiting), "bytes": int(size), "what": what}
 
@@ -27,7 +30,7 @@ def measured(folder):
     for path in sorted(glob.glob(os.path.join(folder, "times.*.tsv"))):
         for *key, ns in rows(path):
             found.setdefault(tuple(key), []).append(float(ns))
-    counts = {tuple(key): round(int(count) / int(calls)) for *key, calls, count in rows(os.path.join(folder, "instructions.tsv"))}
+    counts = {tuple(key): round(int(count) / int(calls), 1) for *key, calls, count in rows(os.path.join(folder, "instructions.tsv"))}
     for key, ns in found.items():
         yield {**named(key), "ns": ns, "instructions": counts.get(key)}
 

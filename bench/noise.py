@@ -10,7 +10,7 @@ def main():
         sys.exit(__doc__)
     noisy = load(sys.argv[1]).noisy()
     for case, what, ns in noisy:
-        print(f"{row_name(case, what)}: {min(ns):,.0f} to {max(ns):,.0f} ns, a spread of {spread(ns):.1%}")
+        print(f"{row_name(case, what)}: {min(ns):,.1f} to {max(ns):,.1f} ns, a spread of {spread(ns):.1%}")
     if noisy:
         print(f"rows with a spread above {MOST_SPREAD:.0%}: {len(noisy)}")
         sys.exit(3)

@@ -3,8 +3,8 @@
 aim is met."""
 import sys
 
-from results import (DEPTHS, EVEN, MACHINES, MIXED, MOST_SPREAD, SCANS, STARTS, STATES, Case, cases, load, median, message_name,
-                     row_name, spread)
+from results import (DEPTHS, EVEN, MACHINES, MIXED, MOST_SPREAD, SCANS, STARTS, STATES, VALUES, Case, cases, load, median, message_name,
+                     row_name, spread, values_name)
 
 CALLS = ("open", "feed", "quote", "sell", "buy", "write", "state", "board", "salvage")
 MOST_STACK = 24576  # bytes
@@ -45,6 +45,7 @@ SCAN_ROWS = (("scan", "scan, order ids of 10 bytes"), ("mixed scan", "scan, orde
              ("far scan", "scan, prices of 900,000,000 and more"),
              ("loop", "bare loop, sixteen numbers at a time: the floor"), ("plain loop", "bare loop, one number after the other"),
              ("scalar loop", "bare loop, one number to an instruction"))
+DIGIT_ROWS = (("nothing", "a call that reads nothing"), ("digits", "proved reader"), ("plain digits", "plain loop in C"))
 WALK_ROWS = (("salvage", "walk"), ("salvage, 1 byte in 1000 damaged", "walk, 1 byte in 1,000 damaged"),
              ("salvage, 1 byte in 10 damaged", "walk, 1 byte in 10 damaged"), ("parse", "QuickFIX: parse of each message"))
 # What a recording holds, and what its rows are.
@@ -96,6 +97,15 @@ NOTES = """\
   `quote` does. Before it is timed, the books are compared, and all numbers of both lots with what the plain reader's places bring;
   the run fails where there are not 20 bids, or where a lot that is timed is not answered 0. `selkavorn_buy` does the same with the
   offers: its stack is measured, and it is not timed.
+- The reader of digits is `digits::digits` with a width of 18, exported by itself (`crates/gauge`): in the archive that users link it is
+  taken into its callers, so that a call of it there may take less. Its peer is a loop in C that reads one digit a turn
+  (`bench/digits.c`). Of each sort there are 16,384 values (`bench/values.cpp`), the same in every run, end to end with a SOH behind
+  each. Digits are drawn, the first from 1 to 9, and so are lengths where they differ, evenly. A bad value has one byte that is no digit,
+  at a drawn place: `/`, `:`, or a drawn one. They are so many that the processor cannot know by heart where a value ends or is bad: in
+  a reader that goes by that, its wrong guesses are in the time. A round reads all of a sort, a call each, and fails where the sum of the
+  answers is not that of what was written. What a digit takes is what a value takes over how many bytes it has, also where it is bad
+  and not read to its end. Before anything is timed, both readers must answer the same to all these values, and to texts of 0 to 20
+  bytes with every byte at every place.
 - A recording (`bench/recordings.cpp`) is messages of such streams end to end, at order depth, the same in every run: X of 1 entry
   alone; or mixed, with, of 16 messages on average, ten X of 1 entry, three of 4, one of 10, a heartbeat and a snapshot of 40 entries.
   Both are longer than a usual second-level cache. A damaged byte is replaced by a drawn one. Where that is one in 10, next to no
@@ -108,8 +118,8 @@ NOTES = """\
   reader at each byte, and must cover the recording; when it is timed, their number is compared.
 - The store starts at an address that 64 divides, as a line of the cache does (`bench/store.hpp`). A time depends on where in
   memory it lies, so each round takes another of 31 copies; a scan and its loop have the same one. The proved code starts at such an
-  address too (`bench/align.c`), so that builds of the bench compare. In another program it may lie less well: in a build without that
-  the scan where the queue is full took a fifth more on a Neoverse-N1.
+  address too (`bench/align.c`), and so does each reader of digits, so that builds of the bench compare. In another program it may lie
+  less well: in a build without that the scan where the queue is full took a fifth more on a Neoverse-N1.
 - A time is the processor's time of the thread, by round, divided by the calls of the round; the rounds of the rows take turns, and
   each is done once before it is timed, so that what it needs is in the caches, as far as they hold it. Recordings have a third of the
   rounds. A repetition is a run of the program, with addresses of its own, and its time is the mean of the middle half of its rounds. A
@@ -126,12 +136,12 @@ NOTES = """\
 """
 
 
-def number(value):
-    return "-" if value is None else f"{value:,.0f}"
+def number(value, decimals=0):
+    return "-" if value is None else f"{value:,.{decimals}f}"
 
 
-def span(values):
-    return f"{min(values):,.0f} to {max(values):,.0f} ({spread(values):.1%})"
+def span(values, decimals=0):
+    return f"{number(min(values), decimals)} to {number(max(values), decimals)} ({spread(values):.1%})"
 
 
 def ratio(values):
@@ -155,12 +165,12 @@ def of_machines(runs, *names):
     return [f"{run.machine}: {name}" for run in runs for name in names]
 
 
-def figures(run, case, what):
+def figures(run, case, what, decimals=0):
     """The cells of a row on one machine: median, span, instructions."""
     if (case, what) not in run.times and what != "beyond":
         return ["-", "-", "-"]
     ns = run.ns(case, what)
-    return [number(median(ns)), span(ns), number(run.instructions.get((case, what)))]
+    return [number(median(ns), decimals), span(ns, decimals), number(run.instructions.get((case, what)), decimals)]
 
 
 def times(runs, waiting):
@@ -193,6 +203,29 @@ def others(runs):
     for what, meaning in SCAN_ROWS:
         rows.append([f"order depth: {meaning}"] + [cell for run in runs for cell in figures(run, SCANS, what)])
     return table(["call"] + of_machines(runs, "ns", "lowest to highest", "instructions"), rows)
+
+
+def digit_figures(run, values, what):
+    """The cells of a reader of digits on one machine: of a value time, span and instructions, of a digit both, and its share of the plain
+    loop's time."""
+    cells = figures(run, values, what, 1)
+    if what == "nothing":
+        return cells + ["-"] * 3
+    length, instructions = run.bytes[values, what], run.instructions[values, what]
+    cells += [number(median(run.ns(values, what)) / length, 1), number(instructions and instructions / length, 1)]
+    return cells + [ratio(run.ratios(values, what, "plain digits")) if what == "digits" else "-"]
+
+
+def digits(runs):
+    rows = []
+    for values in VALUES:
+        name = values_name(values)
+        for what, meaning in DIGIT_ROWS:
+            if (values, what) in runs[0].times:
+                rows.append([name, meaning] + [cell for run in runs for cell in digit_figures(run, values, what)])
+                name = ""
+    heads = of_machines(runs, "ns a value", "lowest to highest", "instructions", "ns a digit", "instructions a digit", "proved / plain")
+    return table(["values", ""] + heads, rows, 2)
 
 
 def walk_figures(run, recording, what):
@@ -304,6 +337,10 @@ def measured(runs):
     yield ("On full books, none waiting, but for the loop: there all 16 wait, and the queue is full. Each call on a store scans it, but "
            "open.\n")
     yield others(runs)
+    yield "## Reading digits\n"
+    yield ("The reader of digits by itself, with a width of 18. A figure is of one value, with its call and the loop around it; what these "
+           "take where nothing is read stands first.\n")
+    yield digits(runs)
     yield "## The walk of a recording\n"
     yield ("A time is of one message that was recorded, or of one false start: that of the whole walk divided by how many there are. "
            "MB/s are millions of bytes of the recording a second.\n")

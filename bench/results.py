@@ -17,9 +17,22 @@ SCANS = Case("order", 0, 0)
 Recording = namedtuple("Recording", "name")
 EVEN, MIXED, STARTS = Recording("even"), Recording("mixed"), Recording("false starts")
 
+# Values for a reader of digits, by how many they have, as words, and whether they are good or bad.
+Values = namedtuple("Values", "digits sort")
+VALUES = [Values(digits, sort) for digits in ("1", "2", "3", "4", "5", "8", "12", "18", "1 to 4", "1 to 18") for sort in ("good", "bad")]
+
 
 def cases(waiting):
     return [Case(depth, entries, waiting) for depth in DEPTHS for entries in ENTRIES]
+
+
+def case_of(row):
+    """What a row that is kept is of."""
+    if "recording" in row:
+        return Recording(row["recording"])
+    if "digits" in row:
+        return Values(row["digits"], row["sort"])
+    return Case(row["depth"], row["entries"], row["waiting"])
 
 
 def median(values):
@@ -37,10 +50,10 @@ class Run:
         self.stacks, self.sizes = kept["stacks"], kept["sizes"]
         self.bytes, self.times, self.instructions = {}, {}, {}
         for row in kept["rows"]:
-            of = Recording(row["recording"]) if "recording" in row else Case(row["depth"], row["entries"], row["waiting"])
-            self.bytes[of, row["what"]] = row.get("bytes")
-            self.times[of, row["what"]] = row["ns"]
-            self.instructions[of, row["what"]] = row["instructions"]
+            key = case_of(row), row["what"]
+            self.bytes[key] = row.get("bytes")
+            self.times[key] = row["ns"]
+            self.instructions[key] = row["instructions"]
         # A run of a version that walked no recordings has none.
         self.recordings = {(Recording(row["recording"]), row["what"]): row for row in kept.get("recordings", [])}
 
@@ -76,9 +89,15 @@ def message_name(case):
     return f"{case.depth} depth, {case.entries} {'entry' if case.entries == 1 else 'entries'}"
 
 
+def values_name(values):
+    return f"{values.digits} {'digit' if values.digits == '1' else 'digits'}, {values.sort}"
+
+
 def row_name(case, what):
     """A row in words; the calls that take no X have no entries."""
     if isinstance(case, Recording):
         return f"recording, {case.name}: {what}"
+    if isinstance(case, Values):
+        return f"values of {values_name(case)}: {what}"
     where = f"{message_name(case)}, {STATES[case.waiting]}" if case.entries else f"{case.depth} depth"
     return f"{where}: {what}"

@@ -6,19 +6,26 @@ import unittest
 
 from chart import drawing
 from report import CALLS, RECORDINGS, judged, page, verdict
-from results import EVEN, MIXED, SCANS, STARTS, STATES, Case, Recording, Run, cases, row_name, spread
+from results import EVEN, MIXED, SCANS, STARTS, STATES, VALUES, Case, Recording, Run, Values, cases, row_name, spread
 
 WHATS = ("feed", "scan", "loop", "plain", "parse", "validate", "book")
 OTHERS = ("open", "snapshot", "plain snapshot", "QuickFIX snapshot", "long prices", "plain long prices", "loop end", "plain loop end",
           "loop goes on", "empty all", "plain empty all", "quote", "sell", "sell, 20 places", "write", "state")
 SCAN_WHATS = ("scan", "mixed scan", "far scan", "loop", "plain loop", "scalar loop")
 BYTES = {"loop end": 172, "long prices": 173, "empty all": 174}  # of a message; all others have 171
+LENGTHS = {"1 to 4": 2.5, "1 to 18": 9.5}  # digits of a value, where they are drawn
 HEADERS = pathlib.Path(__file__).resolve().parent.parent / "include"
 
 
-def row(of, what, ns):
-    named = {"recording": of.name} if isinstance(of, Recording) else {**of._asdict(), "bytes": BYTES.get(what, 171)}
-    return {**named, "what": what, "ns": ns, "instructions": None}
+def named(of, what):
+    if isinstance(of, Recording):
+        return {"recording": of.name}
+    length = LENGTHS.get(of.digits) or int(of.digits) if isinstance(of, Values) else BYTES.get(what, 171)
+    return {**of._asdict(), "bytes": length}
+
+
+def row(of, what, ns, instructions=None):
+    return {**named(of, what), "what": what, "ns": ns, "instructions": instructions}
 
 
 def held(recording, what):
@@ -27,15 +34,17 @@ def held(recording, what):
 
 
 def made(machine="aarch64", version="v1", changed=None):
-    """A run in which every time is 100 ns, but for a feed, which is 200, a walk, which is 20, and those that are changed."""
+    """A run in which every time is 100 ns, but for a feed, which is 200, a walk, which is 20, and those that are changed. Instructions are
+    counted of the readers of digits alone, 19 a value."""
     keys = [(case, what) for waiting in range(len(STATES)) for case in cases(waiting) for what in WHATS]
     keys += [(Case(depth, 0, 0), what) for depth in ("order", "price") for what in OTHERS]
     keys += [(SCANS, what) for what in SCAN_WHATS if (SCANS, what) not in keys]
+    keys += [(VALUES[0], "nothing")] + [(values, what) for values in VALUES for what in ("digits", "plain digits")]
     keys += [(recording, what) for recording, _, whats in RECORDINGS for what, _ in whats]
     facts = {"machine": machine, "processor": "P", "date": "2026-11-15", "version": version, "repetitions": "3", "rounds": "1",
              "compiler": "C", "kit": "K", "quickfix": "Q", "valgrind": "V"}
     usual = {what: [{"feed": 200.0, "salvage": 20.0}.get(what, 100.0)] * 3 for _, what in keys}
-    rows = [row(of, what, (changed or {}).get((of, what), usual[what])) for of, what in keys]
+    rows = [row(of, what, (changed or {}).get((of, what), usual[what]), 19 if isinstance(of, Values) else None) for of, what in keys]
     recordings = [held(of, what) for of, what in keys if isinstance(of, Recording) and what != "parse"]
     return Run({"facts": facts, "rows": rows, "recordings": recordings, "stacks": {machine: {"feed": 9, "sell": 8, "buy": 7}},
                 "sizes": {machine: {"selkavorn_feed": 7}}})
@@ -118,6 +127,19 @@ class Report(unittest.TestCase):
         slow = made(changed={(SCANS, "far scan"): [900.0] * 3})
         self.assertRegex("\n".join(page("v1", [slow])), r"\| order depth: scan, prices of 900,000,000 and more +\| +900 \|")
         self.assertEqual([met for *_, met in judged(slow)], [met for *_, met in judged(made())])
+
+    def test_readers_of_digits_have_rows_with_figures_of_a_digit(self):
+        times = {(Values("1 to 18", "bad"), "digits"): [9.5, 9.6, 8.6], (Values("1 to 18", "bad"), "plain digits"): [19.0] * 3}
+        rows = [[cell.strip() for cell in line.split("|")[1:-1]] for line in "\n".join(page("v1", [made(changed=times)])).splitlines()]
+        at = rows.index(["1 digit, good", "a call that reads nothing", "100.0", "100.0 to 100.0 (0.0%)", "19.0", "-", "-", "-"])
+        self.assertEqual(rows[at + 1][:2] + rows[at + 1][4:], ["", "proved reader", "19.0", "100.0", "19.0", "1.00 (1.00 to 1.00)"])
+        self.assertEqual(rows[at + 2][:2], ["", "plain loop in C"])
+        at = rows.index(["1 to 18 digits, bad", "proved reader", "9.5", "8.6 to 9.6 (10.5%)", "19.0", "1.0", "2.0", "0.50 (0.45 to 0.51)"])
+        self.assertEqual(rows[at + 1], ["", "plain loop in C", "19.0", "19.0 to 19.0 (0.0%)", "19.0", "2.0", "2.0", "-"])
+
+    def test_the_spread_of_a_reader_of_digits_counts(self):
+        noisy = made(changed={(Values("1", "good"), "digits"): [1.0, 1.2, 1.1]}).noisy()
+        self.assertEqual([row_name(of, what) for of, what, _ in noisy], ["values of 1 digit, good: digits"])
 
     def test_lots_have_rows_behind_the_quote(self):
         lots = {(Case("price", 0, 0), "sell"): [110.0] * 3, (Case("price", 0, 0), "sell, 20 places"): [120.0] * 3}
