@@ -6,14 +6,16 @@ use Prim.Native.Nat.{ℕ, _+_, _-_, _*_, _^_, _≤_, _<_}
 use native.Mathlib.Nat.{add-zero}
 use native.Mathlib.Omega.{arith}
 use borrow.Author.Tests.{leb-true, leb-false}
+use lib.Bits.{bitXor}
 use lib.Dec.{leb, eqb}
 use lib.ListN.{length, getD, take, drop, length-take, length-drop}
 use lib.Seq.{getD-take, getD-drop}
 use Rattle.digits.specs.Digits.{digitsOf, wholeOf, rangedOf, within}
 use Rattle.digits.specs.declared.Number.the-variants.{Is, No}
-use Rattle.digits.proofs.Steps.{rest, none, long, fit, short, zeroed, unzeroed, low, high, more, done}
+use Rattle.digits.proofs.Steps.{rest, none, long, fit, short, zeroed, unzeroed, more, one, other, done}
 use Rattle.digits.proofs.Ranges.{ranged-back}
 use Rattle.digits.proofs.Width.{push, whole-below}
+use Rattle.digits.proofs.Words.{is-digit}
 use Rattle.chain.specs.Places.{part, firstOf, fieldAt}
 use Rattle.chain.specs.Places.{Tells}
 use Rattle.chain.specs.declared.Step.{Step}
@@ -166,25 +168,38 @@ module _ (s : List ℕ) (at : ℕ) where
             getD-take (firstOf 61 s at - at) (drop at s) (i - at) 0 (omega (arith, later, w .after)) ∙ getD-drop at s (i - at) 0
             ∙ ap (λ (k : ℕ). getD s k 0) k
 
-        pub too-low : getD s i 0 < 48 → fieldAt s at ≡ Step.No
-        too-low h = no-tag s at (firstOf 61 s at) refl (unread bytes (stopped bytes (w .left ∙ low bytes (i - at) v inside (omega (arith, byte)))))
+        -- x is what the byte is worth
+        module _ (x : ℕ) (e : x ≡ bitXor (getD s i 0) 48) where
+          worth : x ≡ bitXor (getD bytes (i - at) 0) 48
+          worth = e ∙ ap (λ (b : ℕ). bitXor b 48) (sym byte)
 
-        pub too-high : 57 < getD s i 0 → fieldAt s at ≡ Step.No
-        too-high h = no-tag s at (firstOf 61 s at) refl (unread bytes (stopped bytes (w .left ∙ high bytes (i - at) v inside (omega (arith, byte)))))
+          pub no-digit : 9 < x → fieldAt s at ≡ Step.No
+          no-digit h = no-tag s at (firstOf 61 s at) refl (unread bytes (stopped bytes (w .left ∙ other bytes (i - at) v x worth inside h)))
+
+          too-many : 5 ≤ i - at → fieldAt s at ≡ Step.No
+          too-many h = no-tag s at (firstOf 61 s at) refl (unread bytes (long bytes 5 (omega (arith, inside)) (omega (arith, inside))))
+
+          one-more : x ≤ 9 → i - at < 5 → Reads (i + 1) (v * 10 + x)
+          one-more d h =
+              let z : i + 1 - at ≡ i - at + 1 = omega (arith, w .after) in
+              record {
+                after = omega (arith, w .after);
+                few = omega (arith, w .after);
+                same = passed s i 61 l q ∙ w .same;
+                big = rw z (push (i - at) (w .big) (omega arith));
+                left = rw z (w .left ∙ one bytes (i - at) v x worth inside d);
+              }
+
+      -- a digit, which is not '='
+      module _ (x : ℕ) (e : x ≡ bitXor (getD s i 0) 48) (d : x ≤ 9) where
+        unlike : getD s i 0 ≡ 61 → ⊥
+        unlike z = let b = is-digit (getD s i 0) (omega arith) in absurd (omega arith)
 
         pub too-long : 5 ≤ i - at → fieldAt s at ≡ Step.No
-        too-long h = no-tag s at (firstOf 61 s at) refl (unread bytes (long bytes 5 (omega (arith, inside)) (omega (arith, inside))))
+        too-long h = too-many unlike x e h
 
-        pub goes-on : 48 ≤ getD s i 0 → getD s i 0 ≤ 57 → i - at < 5 → Reads (i + 1) (v * 10 + (getD s i 0 - 48))
-        goes-on a b h =
-            let e : i + 1 - at ≡ i - at + 1 = omega (arith, w .after) in
-            record {
-              after = omega (arith, w .after);
-              few = omega (arith, w .after);
-              same = passed s i 61 l q ∙ w .same;
-              big = rw e (push (i - at) (w .big) (omega arith));
-              left = rw e (w .left ∙ rw byte at (more bytes (i - at) v inside (omega (arith, byte)) (omega (arith, byte))));
-            }
+        pub goes-on : i - at < 5 → Reads (i + 1) (v * 10 + x)
+        goes-on h = one-more unlike x e d h
 
 -- ---- what was told of a tag
 pub told-no : (s : List ℕ) (at : ℕ) (r : Tag) → Tells s at r → r ≡ Tag.No → fieldAt s at ≡ Step.No

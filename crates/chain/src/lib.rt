@@ -74,7 +74,11 @@ fn tag_at(s: &[u8], at: usize) -> Tag
     let mut i = at;
     while i < n {
         let b = s[i];
-        if b == EQUALS {
+        let d = digits::worth(b);
+        if 9 < d {
+            if b != EQUALS {
+                return Tag::No;
+            }
             if v == 0 {
                 return Tag::No;
             }
@@ -83,16 +87,10 @@ fn tag_at(s: &[u8], at: usize) -> Tag
             }
             return Tag::Is { tag: v, mid: i };
         }
-        if b < b'0' {
-            return Tag::No;
-        }
-        if b'9' < b {
-            return Tag::No;
-        }
         if TAG_DIGITS <= i - at {
             return Tag::No;
         }
-        v = v * 10 + digits::wide(b - b'0');
+        v = v * 10 + d;
         i += 1;
     }
     Tag::No
