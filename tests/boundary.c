@@ -2229,6 +2229,520 @@ static void test_all_store(void)
     end();
 }
 
+/* ---- digits ---- */
+
+/* Values of every length are taken from the start of each. */
+static const char *const runs[] = {"12345678901234567890", "99999999999999999999",
+                                   "10000000000000000000"};
+enum { RUNS = sizeof runs / sizeof *runs, MOST_DIGITS = 20 };
+
+/* Bytes that come into the place of one of a value. */
+struct instead {
+    const char *bytes;
+    size_t n;
+};
+
+/* The digits, what stands about them in ASCII, what shares one half of its bits with them, and
+ * bytes that end a text, a field or a tag. */
+static const char near_bytes[] = "\000\001 +,-./0123456789:;<=>?@p|\200"
+                                 "\260\261\262\263\264\265\266\267\270\271\377";
+static const struct instead near_digits = {near_bytes, sizeof near_bytes - 1}, none_other = {"", 0};
+
+static struct instead every_byte(void)
+{
+    static char every[256];
+    for (int i = 0; i < 256; i++)
+        every[i] = (char)i;
+    return (struct instead){every, sizeof every};
+}
+
+/* A value that is read as digits: where it stands in a message, what a message with a text there
+ * must be answered, and with a good one. */
+struct value {
+    const char *name, *body; /* %.*s stands for the value */
+    uint64_t depth, answer;
+    uint64_t (*wanted)(const struct value *value, const uint8_t *text, size_t n);
+    const char *low, *high; /* of a whole number */
+};
+
+static bool are_digits(const uint8_t *text, size_t n)
+{
+    bool good = n > 0;
+    for (size_t i = 0; i < n; i++)
+        good = good && text[i] >= '0' && text[i] <= '9';
+    return good;
+}
+
+/* Whether one whole number is less than another, by their texts alone. */
+static bool is_less(const void *one, size_t one_n, const void *other, size_t other_n)
+{
+    return one_n < other_n || (one_n == other_n && memcmp(one, other, one_n) < 0);
+}
+
+/* Whole numbers have no leading zero, except 0 itself. */
+static bool is_whole(const uint8_t *text, size_t n, const char *low, const char *high)
+{
+    return are_digits(text, n) && (n == 1 || text[0] != '0') &&
+           !is_less(text, n, low, strlen(low)) && !is_less(high, strlen(high), text, n);
+}
+
+/* An optional minus, 1 to 9 digits, then nothing or a point and 1 to 8 digits. */
+static bool is_price(const uint8_t *text, size_t n)
+{
+    const size_t minus = n > 0 && text[0] == '-' ? 1 : 0;
+    const uint8_t *units = text + minus, *point = memchr(units, '.', n - minus);
+    if (point == NULL)
+        return are_digits(units, n - minus) && n - minus <= 9;
+    const size_t units_n = (size_t)(point - units), decimals_n = n - minus - units_n - 1;
+    return are_digits(units, units_n) && units_n <= 9 && are_digits(point + 1, decimals_n) &&
+           decimals_n <= 8;
+}
+
+/* The number that two digits write. */
+static int pair(const uint8_t *text)
+{
+    return 10 * (text[0] - '0') + text[1] - '0';
+}
+
+/* YYYYMMDD, a Gregorian date. */
+static bool is_date(const uint8_t *text, size_t n)
+{
+    static const int days[] = {31, 28, 31, 30, 31, 30, 31, 31, 30, 31, 30, 31};
+    if (n != 8 || !are_digits(text, n))
+        return false;
+    const int year = 100 * pair(text) + pair(text + 2), month = pair(text + 4);
+    const int day = pair(text + 6);
+    const bool leap = year % 4 == 0 && (year % 100 != 0 || year % 400 == 0);
+    return month >= 1 && month <= 12 && day >= 1 && day <= days[month - 1] + (leap && month == 2);
+}
+
+/* HH:MM:SS with or without .sss; hours to 23, minutes to 59, seconds to 60. */
+static bool is_time(const uint8_t *text, size_t n)
+{
+    if (n != 8 && n != 12)
+        return false;
+    if (n == 12 && (text[8] != '.' || !are_digits(text + 9, 3)))
+        return false;
+    return are_digits(text, 2) && text[2] == ':' && are_digits(text + 3, 2) && text[5] == ':' &&
+           are_digits(text + 6, 2) && pair(text) <= 23 && pair(text + 3) <= 59 &&
+           pair(text + 6) <= 60;
+}
+
+static bool is_moment(const uint8_t *text, size_t n)
+{
+    return n > 9 && is_date(text, 8) && text[8] == '-' && is_time(text + 9, n - 9);
+}
+
+/* A value has at least one byte and ends with its SOH; what stands behind one here is no field. */
+static uint64_t wanted_if(bool good, const struct value *value, const uint8_t *text, size_t n)
+{
+    if (n == 0 || memchr(text, 1, n) != NULL)
+        return SELKAVORN_FRAME;
+    return good ? value->answer : SELKAVORN_FIELDS;
+}
+
+static uint64_t wanted_whole(const struct value *value, const uint8_t *text, size_t n)
+{
+    return wanted_if(is_whole(text, n, value->low, value->high), value, text, n);
+}
+
+static uint64_t wanted_price(const struct value *value, const uint8_t *text, size_t n)
+{
+    return wanted_if(is_price(text, n), value, text, n);
+}
+
+static uint64_t wanted_date(const struct value *value, const uint8_t *text, size_t n)
+{
+    return wanted_if(is_date(text, n), value, text, n);
+}
+
+static uint64_t wanted_time(const struct value *value, const uint8_t *text, size_t n)
+{
+    return wanted_if(is_time(text, n), value, text, n);
+}
+
+static uint64_t wanted_moment(const struct value *value, const uint8_t *text, size_t n)
+{
+    return wanted_if(is_moment(text, n), value, text, n);
+}
+
+/* A tag goes up to its '='; 8, 9, 35, 10, 34 and 52 must not stand again. */
+static uint64_t wanted_tag(const struct value *value, const uint8_t *text, size_t n)
+{
+    static const char *const once[] = {"8", "9", "10", "34", "35", "52"};
+    const uint8_t *equals = memchr(text, '=', n);
+    const size_t tag_n = equals == NULL ? n : (size_t)(equals - text);
+    bool again = false;
+    for (size_t i = 0; i < sizeof once / sizeof *once; i++)
+        again = again || (tag_n == strlen(once[i]) && memcmp(text, once[i], tag_n) == 0);
+    if (!is_whole(text, tag_n, value->low, value->high))
+        return SELKAVORN_FRAME;
+    return again ? SELKAVORN_FIELDS : value->answer;
+}
+
+/* Gives the message that was made last the right sum. */
+static void mend_sum(void)
+{
+    const size_t sum_at = message_n - strlen("000|");
+    snprintf((char *)message + sum_at, MESSAGE_ROOM - sum_at, "%03u\001",
+             sum_of(message, sum_at - strlen("10=")));
+}
+
+/* Feeds the first board, whose two instruments wait, the message that was made last; what it
+ * changes is undone. */
+static void feed_undone(uint64_t answer, const char *what)
+{
+    feed_made(&first, answer, 2, what);
+    memcpy(first.area, first.before, sizeof first.area);
+}
+
+/* Gives what stands behind tag 9 in the message that was made last. */
+static uint8_t *after_count(void)
+{
+    uint8_t *count = (uint8_t *)memchr(message, 1, message_n) + 1;
+    return (uint8_t *)memchr(count, 1, message_n) + 1;
+}
+
+/* Feeds a text as a value, then with each of these bytes at each of its places. */
+static void check_text(const struct value *value, const char *text, size_t n,
+                       struct instead instead)
+{
+    make(value->body, (int)n, text);
+    uint8_t *at = after_count() + (strchr(value->body, '%') - value->body);
+    feed_undone(value->wanted(value, at, n), value->name);
+    for (size_t i = 0; i < n; i++) {
+        for (size_t j = 0; j < instead.n; j++) {
+            at[i] = (uint8_t)instead.bytes[j];
+            mend_sum();
+            feed_undone(value->wanted(value, at, n), value->name);
+        }
+        at[i] = (uint8_t)text[i];
+    }
+}
+
+#define X_OF "35=X|34=1|" AT "268=1|"
+#define SIDE_OF(id) "279=0|269=0|48=" id "|22=8|"
+#define TWELVE(entry) entry entry entry entry entry entry entry entry entry entry entry entry
+#define PASSED "279=0|269=2|"
+
+static const struct value wholes[] = {
+    {"48", X_OF BID_OF("%.*s"), 0, SELKAVORN_DONE, wanted_whole, "1", "999999999999999999"},
+    {"48 of a J", X_OF EMPTY_OF("%.*s"), 0, SELKAVORN_DONE, wanted_whole, "1",
+     "999999999999999999"},
+    {"271", X_OF SIDE_OF("55") "270=1|271=%.*s|37=A|" STAMP "290=1|", 0, SELKAVORN_DONE,
+     wanted_whole, "1", "999999999999"},
+    {"290", X_OF "279=2|269=0|48=55|22=8|290=%.*s|", 0, SELKAVORN_DONE, wanted_whole, "1", "65535"},
+    {"346", X_OF SIDE_OF("55") "270=1|271=1|346=%.*s|" STAMP "290=1|", SELKAVORN_PRICE_DEPTH,
+     SELKAVORN_DONE, wanted_whole, "1", "65535"},
+    {"279", X_OF "279=%.*s|269=2|", 0, SELKAVORN_DONE, wanted_whole, "0", "4"},
+    {"268 of none", "35=X|34=1|" AT "268=%.*s|", 0, SELKAVORN_DONE, wanted_whole, "0", "0"},
+    {"268 of 12", "35=X|34=1|" AT "268=%.*s|" TWELVE(PASSED), 0, SELKAVORN_DONE, wanted_whole, "12",
+     "12"},
+    {"34", "35=W|34=%.*s|" AT "48=55|22=8|369=0|911=2|268=0|", 0, SELKAVORN_SNAPSHOT_UNFOLLOWED,
+     wanted_whole, "1", "4294967295"},
+    {"369", "35=W|34=1|" AT "48=55|22=8|369=%.*s|911=2|268=0|", 0, SELKAVORN_SNAPSHOT_UNFOLLOWED,
+     wanted_whole, "0", "4294967295"},
+    {"911", "35=W|34=2|" AT "48=55|22=8|369=0|911=%.*s|268=0|", 0, SELKAVORN_SNAPSHOT_UNFOLLOWED,
+     wanted_whole, "1", "4294967295"}};
+
+/* Every length up to two digits past the highest number's, with near misses. */
+static void check_whole(const struct value *value)
+{
+    const size_t most = strlen(value->high) + 2;
+    open_fresh(&first, value->depth);
+    for (size_t run = 0; run < RUNS; run++)
+        for (size_t n = 0; n <= most; n++)
+            check_text(value, runs[run], n, near_digits);
+    check_text(value, value->high, strlen(value->high), near_digits);
+    check_text(value, value->low, strlen(value->low), near_digits);
+}
+
+static void test_wholes(void)
+{
+    begin("digits of whole numbers");
+    for (size_t i = 0; i < sizeof wholes / sizeof *wholes; i++)
+        check_whole(&wholes[i]);
+    open_fresh(&first, wholes[0].depth);
+    for (size_t n = 0; n <= MOST_DIGITS; n++)
+        check_text(&wholes[0], runs[0], n, every_byte());
+    for (size_t n = 0; n < message_n; n++)
+        check_equal(feed_bytes(&first, message, n), SELKAVORN_FRAME + 2 * 256, "cut short");
+    end();
+}
+
+static void test_tags(void)
+{
+    static const struct value tag = {"a tag", "35=0|34=1|" AT "%.*s=x|", 0, SELKAVORN_DONE,
+                                     wanted_tag, "1", "99999"};
+    begin("digits of tags");
+    open_fresh(&first, tag.depth);
+    for (size_t run = 0; run < RUNS; run++)
+        for (size_t n = 0; n <= 7; n++)
+            check_text(&tag, runs[run], n, every_byte());
+    end();
+}
+
+/* Writes a price with so many digits before the point and behind it; none is no point. */
+static void write_price(char *text, size_t room, const char *minus, int units, int decimals,
+                        const char *run)
+{
+    snprintf(text, room, "%s%.*s%s%.*s", minus, units, run, decimals > 0 ? "." : "", decimals, run);
+}
+
+/* Prices of every shape up to one digit too many on each side of the point, with near misses where
+ * one side has its fewest or its most. */
+static void test_price_digits(void)
+{
+    static const struct value price = {
+        "270", X_OF SIDE_OF("55") "270=%.*s|271=1|37=A|" STAMP "290=1|", 0, SELKAVORN_DONE,
+        wanted_price, NULL, NULL};
+    char text[2 * MOST_DIGITS];
+    begin("digits of prices");
+    open_fresh(&first, price.depth);
+    for (int shape = 0; shape < 2 * 11 * 10; shape++) {
+        const int units = shape / 2 % 11, decimals = shape / 22;
+        const bool edge = units == 1 || units == 9 || decimals == 0 || decimals == 8;
+        write_price(text, sizeof text, shape % 2 ? "-" : "", units, decimals, runs[0]);
+        check_text(&price, text, strlen(text), edge ? near_digits : none_other);
+    }
+    end();
+}
+
+/* Moments, of which the first eight bytes are a date and those from the tenth on a time. */
+static const char *const moments[] = {"20240229-23:59:60", "00000101-00:00:00.000",
+                                      "99991231-19:09:59.999", "12341011-12:34:56.789"};
+enum { MOMENTS = sizeof moments / sizeof *moments, DATE_LENGTH = 8, TIME_AT = 9 };
+
+/* A text cut at every byte, and whole with near misses. */
+static void check_fixed(const struct value *value, const char *text, size_t n)
+{
+    for (size_t cut = 0; cut < n; cut++)
+        check_text(value, text, cut, none_other);
+    check_text(value, text, n, near_digits);
+}
+
+static void test_fixed_digits(void)
+{
+    static const struct value moment = {
+        "52", "35=0|34=1|52=%.*s|", 0, SELKAVORN_DONE, wanted_moment, NULL, NULL};
+    static const struct value date = {
+        "272", X_OF SIDE_OF("55") "270=1|271=1|37=A|272=%.*s|273=12:00:00|290=1|", 0,
+        SELKAVORN_DONE, wanted_date, NULL, NULL};
+    static const struct value time = {
+        "273", X_OF SIDE_OF("55") "270=1|271=1|37=A|272=20250103|273=%.*s|290=1|", 0,
+        SELKAVORN_DONE, wanted_time, NULL, NULL};
+    begin("digits of dates and times");
+    open_fresh(&first, SELKAVORN_ORDER_DEPTH);
+    for (size_t i = 0; i < MOMENTS; i++) {
+        check_fixed(&moment, moments[i], strlen(moments[i]));
+        check_fixed(&date, moments[i], DATE_LENGTH);
+        check_fixed(&time, moments[i] + TIME_AT, strlen(moments[i] + TIME_AT));
+    }
+    end();
+}
+
+/* Asks for a quote and a writing at a moment: its last digits lie where memory ends. */
+static void check_moment(const char *text)
+{
+    const bool good = is_moment((const uint8_t *)text, strlen(text));
+    const struct writing w = {7, "S", "Y", 1, 1, text, BYTES_ROOM};
+    check((quote(&first, 7, text, 30, 17) == SELKAVORN_ARGUMENT) != good, text);
+    check_equal(SELKAVORN_ANSWER(write_book(&first, w)), good ? SELKAVORN_DONE : SELKAVORN_ARGUMENT,
+                text);
+}
+
+/* A moment cut at every byte, and whole with near misses but for the byte that ends a C string. */
+static void check_moments(const char *moment)
+{
+    char text[2 * MOST_DIGITS];
+    for (size_t n = 0; n <= strlen(moment); n++) {
+        snprintf(text, sizeof text, "%.*s", (int)n, moment);
+        check_moment(text);
+    }
+    for (size_t i = 0; moment[i] != '\0'; i++) {
+        for (size_t j = 1; j < near_digits.n; j++) {
+            text[i] = near_digits.bytes[j];
+            check_moment(text);
+        }
+        text[i] = moment[i];
+    }
+}
+
+static void test_lent_moments(void)
+{
+    begin("digits of lent moments");
+    open_with_book(&first);
+    for (size_t i = 0; i < MOMENTS; i++)
+        check_moments(moments[i]);
+    end();
+}
+
+/* Feeds the message that was made last with every byte at each of these places, where one text
+ * alone is right; three other digits of tag 10 are another sum. */
+static void check_every(uint8_t *at, size_t n, uint64_t right, bool of_sum)
+{
+    for (size_t i = 0; i < n; i++) {
+        const uint8_t kept = at[i];
+        for (int byte = 0; byte < 256; byte++) {
+            const bool another_sum = of_sum && byte >= '0' && byte <= '9';
+            at[i] = (uint8_t)byte;
+            if (!of_sum)
+                mend_sum();
+            feed_undone(byte == kept ? right : another_sum ? SELKAVORN_CHECKSUM : SELKAVORN_FRAME,
+                        of_sum ? "10" : "9");
+        }
+        at[i] = kept;
+    }
+    mend_sum();
+}
+
+#define BEFORE_COUNT "8=FIX.4.4\0019="
+
+/* The digits of 9 and 10 in the message that was made last, which must be answered so; then the
+ * message ends inside its 9 or behind it, where memory does. */
+static void check_ends(uint64_t right)
+{
+    uint8_t *count = message + strlen(BEFORE_COUNT);
+    const size_t behind = (size_t)(after_count() - message);
+    check_every(count, behind - 1 - strlen(BEFORE_COUNT), right, false);
+    check_every(message + message_n - strlen("000|"), 3, right, true);
+    for (size_t n = 0; n <= behind; n++)
+        check_equal(feed_bytes(&first, message, n), SELKAVORN_FRAME + 2 * 256, "cut short");
+}
+
+/* Makes the shortest message with these texts in 9 and 10. */
+static void make_ends(const char *count, const char *sum)
+{
+    message_n = (size_t)snprintf((char *)message, MESSAGE_ROOM,
+                                 BEFORE_COUNT "%s\00135=0\00110=%s\001", count, sum);
+}
+
+static void test_end_digits(void)
+{
+    static const char *const counts[] = {"",      "05",    "005",    "0005",      "00005",
+                                         "50005", "65541", "000005", "4294967301"};
+    static const char *const sums[] = {"", "1", "16", "63", "0163", "1630", "00000163"};
+    begin("digits of 9 and 10");
+    open_fresh(&first, SELKAVORN_ORDER_DEPTH);
+    for (size_t i = 0; i < sizeof counts / sizeof *counts; i++) {
+        make_ends(counts[i], "000");
+        mend_sum();
+        feed_undone(SELKAVORN_FRAME, counts[i]);
+    }
+    for (size_t i = 0; i < sizeof sums / sizeof *sums; i++) {
+        make_ends("5", sums[i]);
+        feed_undone(SELKAVORN_FRAME, sums[i]);
+    }
+    make_ends("5", "163");
+    check_ends(SELKAVORN_FIELDS);
+    make(HEARTBEAT, 1);
+    check_ends(SELKAVORN_DONE);
+    make(TEXT, 1, 100, 0);
+    check_ends(SELKAVORN_DONE);
+    make(TEXT, 1, 1000, 0);
+    check_ends(SELKAVORN_DONE);
+    end();
+}
+
+/* The number that the first digits of a run write. */
+static uint64_t number_of(const char *run, int n)
+{
+    char text[MOST_DIGITS + 1];
+    snprintf(text, sizeof text, "%.*s", n, run);
+    return strtoull(text, NULL, 10);
+}
+
+/* 16 instruments whose ids have `shortest` digits and more: each gets a bid of its own, whose size
+ * has 1 to 12 digits, and is written with its own id. */
+static void check_ids(const char *run, int shortest)
+{
+    uint64_t ids[16];
+    char field[40];
+    for (int i = 0; i < 16; i++)
+        ids[i] = number_of(run, shortest + i);
+    fresh(&first);
+    check_equal(open_board(&first, SELKAVORN_ORDER_DEPTH, ids, 16), SELKAVORN_DONE, "opening");
+    for (int i = 0; i < 16; i++)
+        feed(&first, SELKAVORN_TAKEN, (uint64_t)(15 - i), "an id",
+             "35=W|34=1|" AT "48=%.*s|22=8|369=0|911=2|268=0|", shortest + i, run);
+    for (int i = 0; i < 16; i++)
+        feed(&first, SELKAVORN_DONE, 0, "a bid of each",
+             "35=X|34=%d|" AT "268=1|" SIDE_OF("%.*s") "270=1|271=%.*s|37=A|" STAMP "290=1|", i + 1,
+             shortest + i, run, i % 12 + 1, run);
+    for (int i = 0; i < 16; i++) {
+        const struct writing w = {ids[i], "S", "Y", 1, 2, moments[0], BYTES_ROOM};
+        check_equal(quote(&first, ids[i], "20250103-13:00:00", 0, 17), SELKAVORN_DONE, "an id");
+        check_equal(numbers[SELKAVORN_QUOTE_BID + SELKAVORN_SIDE_SIZE], number_of(run, i % 12 + 1),
+                    "a size");
+        const size_t n = (size_t)SELKAVORN_LENGTH(write_book(&first, w));
+        snprintf(field, sizeof field, "\00148=%.*s\001", shortest + i, run);
+        check_equal(count_fields(bytes, n, field), 1, "the id is written");
+    }
+}
+
+/* Every shape of a price, as 7's bid of a book that has no other. */
+static void check_shapes(const char *run)
+{
+    char text[2 * MOST_DIGITS], parts[2 * MOST_DIGITS];
+    open_fresh(&first, SELKAVORN_ORDER_DEPTH);
+    feed(&first, SELKAVORN_TAKEN, 1, "369 = 0", EMPTY_W, 7, 0);
+    for (int shape = 0; shape < 2 * 9 * 9; shape++) {
+        const int units = shape / 2 % 9 + 1, decimals = shape / 18;
+        const char *minus = shape % 2 ? "-" : "";
+        write_price(text, sizeof text, minus, units, decimals, run);
+        snprintf(parts, sizeof parts, "%s%.*s%.*s%.*s", minus, units, run, decimals, run,
+                 SELKAVORN_PRICE_DECIMALS - decimals, "00000000");
+        feed(&first, SELKAVORN_DONE, 1, text,
+             "35=X|34=%d|" AT "268=1|279=%d|48=7|22=8|" PRICED, shape + 1, shape > 0, text);
+        check_price(SELL, strtoll(parts, NULL, 10), text);
+    }
+}
+
+/* 34, 369, 911 and 346 with numbers about this one: the board's, the loop's, a quote's. */
+static void check_number(uint64_t number, uint64_t orders)
+{
+    open_fresh(&first, SELKAVORN_PRICE_DEPTH);
+    feed(&first, SELKAVORN_SNAPSHOT_UNFOLLOWED, 2, "369 and 911",
+         "35=W|34=1|" AT "48=55|22=8|369=%" PRIu64 "|911=%" PRIu64 "|268=0|", number, number + 1);
+    check_record((struct record){{number + 1, 1, number, 0}}, "369 and 911");
+    feed(&first, number == 1 ? SELKAVORN_DONE : SELKAVORN_GAP, 2, "34",
+         "35=0|34=%" PRIu64 "|" AT, number);
+    check_summary(number, 20250103, 130000000, number == 1 ? 0 : number - 1, 3, "34");
+    feed(&first, SELKAVORN_TAKEN, 1, "346",
+         "35=W|34=1|" AT "48=7|22=8|369=%" PRIu64 "|911=2|268=1|"
+         "269=0|270=1|271=1|346=%" PRIu64 "|" STAMP "290=1|", number, orders);
+    check_equal(quote(&first, 7, "20250103-13:00:00", 0, 17), SELKAVORN_DONE, "346");
+    check_equal(numbers[SELKAVORN_QUOTE_BID + SELKAVORN_SIDE_BY], orders, "346");
+}
+
+/* A moment as the heard time of the board. */
+static void check_heard(const char *text)
+{
+    char digits[MOST_DIGITS];
+    const char *time = text + TIME_AT, *parts = strlen(time) > 8 ? time + 9 : "000";
+    snprintf(digits, sizeof digits, "%.2s%.2s%.2s%s", time, time + 3, time + 6, parts);
+    open_fresh(&first, SELKAVORN_ORDER_DEPTH);
+    feed(&first, SELKAVORN_DONE, 2, text, "35=0|34=1|52=%s|", text);
+    check_summary(1, number_of(text, DATE_LENGTH), number_of(digits, 9), 0, 3, text);
+}
+
+static void test_numbers_read(void)
+{
+    begin("digits as they are read");
+    for (size_t run = 0; run < RUNS; run++) {
+        check_ids(runs[run], 1);
+        check_ids(runs[run], 3);
+        check_shapes(runs[run]);
+        for (int n = 1; n <= 9; n++)
+            check_number(number_of(runs[run], n), number_of(runs[run], n <= 4 ? n : 4));
+    }
+    check_number(1234567890, 12345);
+    check_number(LARGEST - 1, 65535);
+    for (size_t i = 0; i < MOMENTS; i++)
+        check_heard(moments[i]);
+    end();
+}
+
 static void test_walk_arguments(void)
 {
     begin("arguments of a walk");
@@ -2478,6 +2992,13 @@ int main(void)
     test_all_replayed();
     test_all_broken();
     test_all_store();
+    test_wholes();
+    test_tags();
+    test_price_digits();
+    test_fixed_digits();
+    test_lent_moments();
+    test_end_digits();
+    test_numbers_read();
     test_walk_arguments();
     test_walk();
     test_cut();
