@@ -1,6 +1,6 @@
 //! Readers of the values that stand in fields; `None` is a breach under Fields.
 
-use crate::flip::{either, on, Flip};
+use crate::flip::{colon_for_nine, either, low_half, on, taken, Flip, Taking};
 
 /// The largest number of tags 34, 369 and 911.
 pub const LARGEST_NUMBER: u64 = 4_294_967_295;
@@ -15,8 +15,17 @@ pub const ONE: i64 = 10_i64.pow(DECIMALS as u32);
 /// One above the greatest price that is held.
 pub const PRICE_END: u64 = 10_u64.pow((UNITS + DECIMALS) as u32);
 
+/// Wrong takings of the bytes of a whole number.
+const TAKINGS: [Taking; 4] = [
+    (Flip::ColonRead, colon_for_nine),
+    (Flip::ColonReadInFront, |behind, byte| if behind < 8 { byte } else { colon_for_nine(behind, byte) }),
+    (Flip::HighBitDropped, |_, byte| byte & 0x7f),
+    (Flip::LowHalfRead, low_half),
+];
+
 /// A whole number without leading zero, except 0 itself, from `low` to `high`.
 pub fn whole(value: &[u8], low: u64, high: u64) -> Option<u64> {
+    let value = &*taken(value, &TAKINGS);
     let padded = value.len() > 1 && value[0] == b'0' && !on(Flip::LeadingZero);
     let widest = either(Flip::IdOf19, 18, 19);
     if padded || value.len() > widest || !value.iter().all(u8::is_ascii_digit) {
@@ -40,7 +49,8 @@ pub fn security(value: &[u8]) -> Option<u64> {
 
 /// 270: optional minus, 1 to 9 digits, then nothing or a point and 1 to 8 digits.
 pub fn price(value: &[u8]) -> Option<i64> {
-    let text = std::str::from_utf8(value).ok()?;
+    let value = taken(value, &[(Flip::PriceColonRead, colon_for_nine)]);
+    let text = std::str::from_utf8(&value).ok()?;
     let (minus, rest) = match text.strip_prefix('-') {
         Some(rest) => (true, rest),
         None => (false, text),

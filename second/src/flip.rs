@@ -1,6 +1,7 @@
 //! Flips: single wrong conditions that can be switched on, to show that the comparison
 //! finds them. None is on unless the command line asks for it.
 
+use std::borrow::Cow;
 use std::sync::atomic::{AtomicUsize, Ordering};
 
 /// 0 when no flip is on, else the number of the one that is.
@@ -55,6 +56,13 @@ flips! {
     SecondsTo61: "seconds run to 61",
     SecondsTo59: "seconds run to 59",
     LeadingZero: "whole numbers may have a leading zero",
+    ColonRead: "a colon in a whole number is read as 9",
+    ColonReadInFront: "a colon before the last eight digits of a whole number is read as 9",
+    HighBitDropped: "the high bit of a byte of a whole number is not looked at",
+    LowHalfRead: "only the low half of a byte of a whole number is looked at",
+    PriceColonRead: "a colon in a price is read as 9",
+    TagColonRead: "a colon in a tag is read as 9",
+    CountLowHalfRead: "only the low half of a byte of 9 is looked at",
     NumberPastEnd: "34 runs to 4,294,967,296",
     NineDecimals: "prices may have 9 decimals",
     SevenDecimals: "prices may have 7 decimals at most",
@@ -302,6 +310,32 @@ pub fn turn_on(number: usize) {
 /// Whether this flip is on.
 pub fn on(flip: Flip) -> bool {
     ON.load(Ordering::Relaxed) == flip as usize + 1
+}
+
+/// What a flip takes a byte for, which has so many bytes behind it.
+pub type Taking = (Flip, fn(usize, u8) -> u8);
+
+/// The bytes, or what they are taken for where one of these flips is on.
+pub fn taken<'a>(bytes: &'a [u8], takings: &[Taking]) -> Cow<'a, [u8]> {
+    let n = bytes.len();
+    match takings.iter().find(|(flip, _)| on(*flip)) {
+        Some((_, take)) => bytes.iter().enumerate().map(|(i, byte)| take(n - 1 - i, *byte)).collect(),
+        None => Cow::Borrowed(bytes),
+    }
+}
+
+/// A colon, which follows 9 in ASCII, taken for a 9.
+pub fn colon_for_nine(_behind: usize, byte: u8) -> u8 {
+    if byte == b':' {
+        b'9'
+    } else {
+        byte
+    }
+}
+
+/// A byte taken for the digit that has its low half.
+pub fn low_half(_behind: usize, byte: u8) -> u8 {
+    b'0' | byte & 0x0f
 }
 
 /// The right value, or the wrong one where its flip is on.

@@ -1,7 +1,7 @@
 //! The frame: a message is a chain of fields 8=FIX.4.4, 9, 35, others, last 10.
 
 use crate::answer::{CHECKSUM, FRAME};
-use crate::flip::{either, on, Flip};
+use crate::flip::{colon_for_nine, either, low_half, on, taken, Flip};
 
 /// The byte that ends a field.
 pub const SOH: u8 = 1;
@@ -35,6 +35,7 @@ fn field(piece: &[u8]) -> Option<Field<'_>> {
     if value.is_empty() && !on(Flip::EmptyValue) {
         return None;
     }
+    let tag = &taken(tag, &[(Flip::TagColonRead, colon_for_nine)]);
     let tag = digits(tag, either(Flip::TagOf6, 5, 6), on(Flip::TagPadded))?;
     (tag >= 1).then_some((tag, value))
 }
@@ -67,7 +68,8 @@ fn width(field: &Field) -> usize {
 fn check_count(message: &[u8], fields: &[Field]) -> Result<(), u64> {
     let around = width(&fields[0]) + width(&fields[1]) + width(&fields[fields.len() - 1]);
     let between = message.len() - around;
-    let told = digits(fields[1].1, 5, on(Flip::CountPadded)).ok_or(FRAME)?;
+    let count = taken(fields[1].1, &[(Flip::CountLowHalfRead, low_half)]);
+    let told = digits(&count, 5, on(Flip::CountPadded)).ok_or(FRAME)?;
     (told as usize == between).then_some(()).ok_or(FRAME)
 }
 

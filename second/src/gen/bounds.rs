@@ -78,8 +78,13 @@ fn table(tag: u32) -> &'static [&'static str] {
     }
 }
 
-/// A value at a bound of its tag, good or just outside; now and then no value at all.
+/// A value at a bound of its tag, good or just outside, or nearly of digits; now and then no value at all.
 pub fn bound(rng: &mut Rng, tag: u32) -> Vec<u8> {
+    if rng.chance(15) {
+        if let Some(text) = digits(rng, tag) {
+            return near_miss(rng, text);
+        }
+    }
     match tag {
         52 => moment(rng).into_bytes(),
         37 => name(rng),
@@ -90,6 +95,38 @@ pub fn bound(rng: &mut Rng, tag: u32) -> Vec<u8> {
         _ if rng.chance(10) => rng.pick(&NOT_WHOLE).as_bytes().to_vec(),
         _ => rng.pick(table(tag)).as_bytes().to_vec(),
     }
+}
+
+/// Digits of any length, up to one more than a tag's value may have; `None` where it has none.
+fn digits(rng: &mut Rng, tag: u32) -> Option<String> {
+    let widest = match tag {
+        270 => return Some(values::price(rng)),
+        272 => return Some(values::date(rng)),
+        273 => return Some(values::time(rng)),
+        52 => return Some(format!("{}-{}", values::date(rng), values::time(rng))),
+        48 => 18,
+        271 => 12,
+        34 | 369 | 911 => 10,
+        290 | 346 => 5,
+        268 => 2,
+        279 => 1,
+        _ => return None,
+    };
+    let n = rng.between(1, widest + 1);
+    Some(values::whole(rng, n))
+}
+
+/// The text with one byte that is nearly a digit: one beside them, or a digit with other high bits.
+pub fn near_miss(rng: &mut Rng, text: String) -> Vec<u8> {
+    let mut bytes = text.into_bytes();
+    let i = rng.below(bytes.len());
+    bytes[i] = match rng.below(6) {
+        0 => b'/',
+        1 | 2 => b':',
+        3 => b' ',
+        _ => bytes[i] ^ *rng.pick(&[0x10, 0x40, 0x80]),
+    };
+    bytes
 }
 
 /// Bounds of an order id: its length and its bytes.

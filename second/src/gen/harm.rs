@@ -98,9 +98,9 @@ pub fn seal_badly(rng: &mut Rng, draft: &Draft) -> Vec<u8> {
     let sealed = seal_with(&body, n.to_string().as_bytes(), None);
     let right = sum(&sealed[..sealed.len() - 7]);
     match rng.below(7) {
-        0 => seal_with(&body, wrong_count(rng, n).as_bytes(), None),
+        0 => seal_with(&body, &wrong_count(rng, n), None),
         1 => seal_with(&body, n.to_string().as_bytes(), Some(&wrong_trailer(rng, right))),
-        2 => seal_with(&body, wrong_count(rng, n).as_bytes(), Some(&wrong_trailer(rng, right))),
+        2 => seal_with(&body, &wrong_count(rng, n), Some(&wrong_trailer(rng, right))),
         3 => with_begin(rng, &body),
         5 => with_end(rng, draft.seal()),
         4 => with_bad_field(rng, draft).seal(),
@@ -109,8 +109,8 @@ pub fn seal_badly(rng: &mut Rng, draft: &Draft) -> Vec<u8> {
 }
 
 /// Texts for tag 9 beside the right one.
-fn wrong_count(rng: &mut Rng, n: usize) -> String {
-    match rng.below(9) {
+fn wrong_count(rng: &mut Rng, n: usize) -> Vec<u8> {
+    let text = match rng.below(10) {
         0 => (n + 1).to_string(),
         1 => (n - 1).to_string(),
         2 => format!("0{n}"),
@@ -119,19 +119,22 @@ fn wrong_count(rng: &mut Rng, n: usize) -> String {
         5 => String::from("0"),
         6 => format!("{n} "),
         7 => format!("1{n:05}"),
+        8 => return bounds::near_miss(rng, n.to_string()),
         _ => String::from(*rng.pick(&["", "A", "-1", "99999", "100000", "65536", "4294967296"])),
-    }
+    };
+    text.into_bytes()
 }
 
 /// Texts for tag 10 beside the right one.
 fn wrong_trailer(rng: &mut Rng, right: u8) -> Vec<u8> {
-    let text = match rng.below(9) {
+    let text = match rng.below(10) {
         0 | 1 => format!("{:03}", right.wrapping_add(rng.between(1, 255) as u8)),
         2 => format!("{:03}", u32::from(right) + 256),
         3 => format!("{right}"),
         4 => format!("{right:04}"),
         5 => format!("{right:02}"),
         6 => format!("{:03}", 999 - u32::from(right)),
+        7 => return bounds::near_miss(rng, format!("{right:03}")),
         _ => String::from(*rng.pick(&["", "A00", "0 0", "-01", "00", "1", "000", "256", "999", "00A"])),
     };
     text.into_bytes()
@@ -184,10 +187,11 @@ fn end_with_sum(mut bytes: Vec<u8>) -> Vec<u8> {
 fn with_bad_field(rng: &mut Rng, draft: &Draft) -> Draft {
     let mut draft = draft.clone();
     let i = rng.below(draft.fields.len());
-    match rng.below(4) {
+    match rng.below(5) {
         0 => draft.fields[i].1.clear(),
         1 => draft.fields[i].0 = format!("0{}", draft.fields[i].0),
         2 => draft.fields[i].0.clear(),
+        3 => draft.fields.insert(i + 1, (near_tag(rng), b"1".to_vec())),
         _ => {
             let tags = [
                 "0",
@@ -211,6 +215,13 @@ fn with_bad_field(rng: &mut Rng, draft: &Draft) -> Draft {
         }
     }
     draft
+}
+
+/// A tag of 1 to 6 digits, one of them nearly so.
+fn near_tag(rng: &mut Rng) -> String {
+    let n = rng.between(1, 6);
+    let digits = values::whole(rng, n);
+    bounds::near_miss(rng, digits).into_iter().map(char::from).collect()
 }
 
 /// A chain that doesn't begin 8, 9, 35, or is nothing but its ends.

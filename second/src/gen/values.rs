@@ -12,7 +12,7 @@ fn digits(rng: &mut Rng, n: u64) -> String {
 }
 
 /// A whole number of `n` digits without leading zero.
-fn whole(rng: &mut Rng, n: u64) -> String {
+pub fn whole(rng: &mut Rng, n: u64) -> String {
     let first = char::from(b'1' + rng.below(9) as u8);
     format!("{first}{}", digits(rng, n - 1))
 }
