@@ -1,5 +1,5 @@
 -- A word of four bytes: what each is worth, whether all are digits, and what they write. Assumes nothing.
-use mathlib.Core.Path.{_≡_, refl, sym, ap, _∙_}
+use mathlib.Core.Path.{_≡_, ap, _∙_}
 use Prim.Native.Nat.{ℕ, _+_, _-_, _*_, _/_, _%_, _^_, _≤_, _<_}
 use native.Mathlib.Omega.{arith}
 use lib.Bits.{bitAnd, bitOr, bitXor, xor-block, and-block, xor-zero-r, xor-self, xor-add-and, xor-lt, and-le-l, and-le-r, and-high, and-mask, and-zero-r, or-add-and, or-zero-l}
@@ -52,11 +52,11 @@ all-of {b} h = let e : bitAnd b 255 ≡ b % 256 = and-mask b 8 in omega (arith, 
 
 module _ (a b c d : ℕ) (la : a < 256) (lb : b < 256) (lc : c < 256) (ld : d < 256) where
   -- each byte of a word is turned into its worth at once
-  pub turned : bitXor (join a b c d) 808464432 ≡ join (bitXor a 48) (bitXor b 48) (bitXor c 48) (bitXor d 48)
+  pub turned : bitXor (join a b c d) 0x3030_3030 ≡ join (bitXor a 48) (bitXor b 48) (bitXor c 48) (bitXor d 48)
   turned = bytewise bitXor xor-block a b c d 48 48 48 48 la lb lc (omega arith) (omega arith) (omega arith)
 
   -- the high halves of the bytes of a word
-  highs : bitAnd (join a b c d) 4042322160 ≡ join (a / 16 * 16) (b / 16 * 16) (c / 16 * 16) (d / 16 * 16)
+  highs : bitAnd (join a b c d) 0xf0f0_f0f0 ≡ join (a / 16 * 16) (b / 16 * 16) (c / 16 * 16) (d / 16 * 16)
   highs = bytewise bitAnd and-block a b c d 240 240 240 240 la lb lc (omega arith) (omega arith) (omega arith) ∙ rw (high-half la, high-half lb, high-half lc, high-half ld)
 
 -- no part of a join of 0 has a bit
@@ -65,7 +65,7 @@ or-none p q h = (omega (arith, or-add-and p q, and-le-l p q, and-le-r p q), omeg
 
 -- the high halves of a word's bytes, and those with six added to each
 abbrev pub above : ℕ → ℕ
-above w = bitOr (bitAnd w 4042322160) (bitAnd (w + 101058054) 4042322160)
+above w = bitOr (bitAnd w 0xf0f0_f0f0) (bitAnd (w + 0x0606_0606) 0xf0f0_f0f0)
 
 -- two pairs, one number
 two : (p r : ℕ) → p < 100 → r < 100 → (p + r * 65536) * 6553601 / 65536 % 65536 ≡ p * 100 + r
@@ -85,24 +85,24 @@ module _ (a b c d : ℕ) where
   none-above z =
       let x = highs a b c d (omega (arith, z .first)) (omega (arith, z .second)) (omega (arith, z .third)) (omega (arith, z .last)) in
       let y = highs (a + 6) (b + 6) (c + 6) (d + 6) (omega (arith, z .first)) (omega (arith, z .second)) (omega (arith, z .third)) (omega (arith, z .last)) in
-      let s : join a b c d + 101058054 ≡ join (a + 6) (b + 6) (c + 6) (d + 6) = omega arith in
-      let p : bitAnd (join a b c d) 4042322160 ≡ 0 = omega (arith, x, z .first, z .second, z .third, z .last) in
-      let t = ap (λ (u : ℕ). bitAnd u 4042322160) s in
-      let q : bitAnd (join a b c d + 101058054) 4042322160 ≡ 0 = omega (arith, t, y, z .first, z .second, z .third, z .last) in
-      ap (λ (u : ℕ). bitOr u (bitAnd (join a b c d + 101058054) 4042322160)) p ∙ or-zero-l (bitAnd (join a b c d + 101058054) 4042322160) ∙ q
+      let s : join a b c d + 0x0606_0606 ≡ join (a + 6) (b + 6) (c + 6) (d + 6) = omega arith in
+      let p : bitAnd (join a b c d) 0xf0f0_f0f0 ≡ 0 = omega (arith, x, z .first, z .second, z .third, z .last) in
+      let t = ap (λ (u : ℕ). bitAnd u 0xf0f0_f0f0) s in
+      let q : bitAnd (join a b c d + 0x0606_0606) 0xf0f0_f0f0 ≡ 0 = omega (arith, t, y, z .first, z .second, z .third, z .last) in
+      ap (λ (u : ℕ). bitOr u (bitAnd (join a b c d + 0x0606_0606) 0xf0f0_f0f0)) p ∙ or-zero-l (bitAnd (join a b c d + 0x0606_0606) 0xf0f0_f0f0) ∙ q
 
   -- and only they
   pub all-digits : a < 256 → b < 256 → c < 256 → d < 256 → above (join a b c d) ≡ 0 → Digits a b c d
   all-digits la lb lc ld h =
-      let z = or-none (bitAnd (join a b c d) 4042322160) (bitAnd (join a b c d + 101058054) 4042322160) h in
+      let z = or-none (bitAnd (join a b c d) 0xf0f0_f0f0) (bitAnd (join a b c d + 0x0606_0606) 0xf0f0_f0f0) h in
       let x = highs a b c d la lb lc ld in
       let fa : a < 16 = omega (arith, x, z .0) in
       let fb : b < 16 = omega (arith, x, z .0) in
       let fc : c < 16 = omega (arith, x, z .0) in
       let fd : d < 16 = omega (arith, x, z .0) in
       let y = highs (a + 6) (b + 6) (c + 6) (d + 6) (omega arith) (omega arith) (omega arith) (omega arith) in
-      let s : join a b c d + 101058054 ≡ join (a + 6) (b + 6) (c + 6) (d + 6) = omega arith in
-      let t = ap (λ (u : ℕ). bitAnd u 4042322160) s in
+      let s : join a b c d + 0x0606_0606 ≡ join (a + 6) (b + 6) (c + 6) (d + 6) = omega arith in
+      let t = ap (λ (u : ℕ). bitAnd u 0xf0f0_f0f0) s in
       record {
         first = omega (arith, z .1, t, y);
         second = omega (arith, z .1, t, y);
@@ -111,21 +111,21 @@ module _ (a b c d : ℕ) where
       }
 
   -- four digits become two pairs, and the pairs one number
-  pub paired : Digits a b c d → bitAnd (join a b c d * 2561 / 256) 16711935 ≡ a * 10 + b + (c * 10 + d) * 65536
+  pub paired : Digits a b c d → bitAnd (join a b c d * 2561 / 256) 0x00ff_00ff ≡ a * 10 + b + (c * 10 + d) * 65536
   paired z =
       let s : join a b c d * 2561 / 256 ≡ join (a * 10 + b) (b * 10 + c) (c * 10 + d) (d * 10) = omega (arith, z .first) in
-      let t = ap (λ (u : ℕ). bitAnd u 16711935) s in
+      let t = ap (λ (u : ℕ). bitAnd u 0x00ff_00ff) s in
       let y = bytewise bitAnd and-block (a * 10 + b) (b * 10 + c) (c * 10 + d) (d * 10) 255 0 255 0 (omega (arith, z .first, z .second)) (omega (arith, z .second, z .third)) (omega (arith, z .third, z .last)) (omega arith) (omega arith) (omega arith) in
       t ∙ y ∙ rw (all-of {b = a * 10 + b} (omega (arith, z .first, z .second)), all-of {b = c * 10 + d} (omega (arith, z .third, z .last)), and-zero-r (b * 10 + c), and-zero-r (d * 10)) (omega arith)
 
-  pub whole : Digits a b c d → bitAnd (join a b c d * 2561 / 256) 16711935 * 6553601 / 65536 % 65536 ≡ ((a * 10 + b) * 10 + c) * 10 + d
+  pub whole : Digits a b c d → bitAnd (join a b c d * 2561 / 256) 0x00ff_00ff * 6553601 / 65536 % 65536 ≡ ((a * 10 + b) * 10 + c) * 10 + d
   whole z =
       ap (λ (u : ℕ). u * 6553601 / 65536 % 65536) (paired z) ∙ two (a * 10 + b) (c * 10 + d) (omega (arith, z .first, z .second)) (omega (arith, z .third, z .last)) ∙ omega arith
 
 -- the bytes of a word of four, by what they are worth
 module _ (a b c d : ℕ) (la : a < 256) (lb : b < 256) (lc : c < 256) (ld : d < 256) where
   abbrev x : ℕ
-  x = bitXor (join a b c d) 808464432
+  x = bitXor (join a b c d) 0x3030_3030
 
   la' : bitXor a 48 < 256
   la' = xor-lt 8 a 48 la (omega arith)
@@ -139,7 +139,7 @@ module _ (a b c d : ℕ) (la : a < 256) (lb : b < 256) (lc : c < 256) (ld : d < 
   ld' : bitXor d 48 < 256
   ld' = xor-lt 8 d 48 ld (omega arith)
 
-  pub bytes-of : (x < 4294967296) × (x % 256 ≡ bitXor a 48) × (x / 256 % 256 ≡ bitXor b 48) × (x / 65536 % 256 ≡ bitXor c 48) × (x / 16777216 ≡ bitXor d 48)
+  pub bytes-of : (x < 2 ^ 32) × (x % 256 ≡ bitXor a 48) × (x / 256 % 256 ≡ bitXor b 48) × (x / 65536 % 256 ≡ bitXor c 48) × (x / 16777216 ≡ bitXor d 48)
   bytes-of =
       let e = turned a b c d la lb lc ld in
       (omega (arith, e, la', lb', lc', ld'), omega (arith, e, la'), omega (arith, e, la', lb'), omega (arith, e, la', lb', lc'), omega (arith, e, la', lb', lc'))

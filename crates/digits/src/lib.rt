@@ -2,11 +2,10 @@
 // every field (document 01, "Fields": whole numbers). A field's tag is read by `chain::tag_at`, which finds the '=' behind
 // it in the same loop; its meaning is `ranged` of the bytes before '=', shown by the laws of this crate. What a digit is worth
 // is known here alone (`worth`).
-// Up to three digits are read one by one; of more, four bytes at a time are one number, a word, in which the first byte is the
-// lowest (document 02, K3).
+// Up to three digits are read one by one, more of them four at a time (document 02, K3).
 ghost use mathlib.Core.Path.{_≡_};
 ghost use mathlib.Core.List.{[], _∷_, _++_};
-ghost use Prim.Native.Nat.{_+_, _-_, _*_, _/_, _%_, _≤_, _<_};
+ghost use Prim.Native.Nat.{_+_, _-_, _/_, _%_, _^_, _≤_, _<_};
 ghost use lib.Bits.{bitXor};
 ghost use lib.ListN.{length, getD, take, drop, replicate};
 ghost use Rattle.digits.specs.Digits.{digitsOf, wholeOf, rangedOf};
@@ -23,11 +22,27 @@ const WIDEST: usize = 18;
 // '0'.
 const ZERO: u64 = 48;
 
-// A word of four bytes that are 1 each: a byte times this is a word of four such bytes.
+// A word is four bytes as one number, the first the lowest. A byte times EACH is a word of four such bytes.
 const EACH: u64 = 0x0101_0101;
 
 // One more than the greatest word.
 const WORDS: u64 = 0x1_0000_0000;
+
+// Four bytes that are '0'.
+const ZEROS: u64 = ZERO * EACH;
+
+// The upper four bits of each byte, and a word of sixes: of 0 to 15 those up to 9 have no such bit with six added, 10 and more have.
+const UPPER: u64 = 240 * EACH;
+
+const SIXES: u64 = 6 * EACH;
+
+// A word of digits times TENS has, from its second byte on, ten times each digit and the next. Its pairs are at the first and the
+// third then, and times HUNDREDS they have a hundred times the first and the second from the third byte on.
+const TENS: u64 = 10 * 256 + 1;
+
+const PAIRS: u64 = 0x00ff_00ff;
+
+const HUNDREDS: u64 = 100 * 65536 + 1;
 
 // A byte as a number.
 pub fn wide(x: u8) -> u64
@@ -45,23 +60,21 @@ pub fn worth(b: u8) -> u64
 
 // The word of what four bytes are worth.
 fn word(a: u8, b: u8, c: u8, d: u8) -> u64
-    ensures { λ r. ⌜ (r < 4294967296) × (r % 256 ≡ bitXor a 48) × (r / 256 % 256 ≡ bitXor b 48) × (r / 65536 % 256 ≡ bitXor c 48) × (r / 16777216 ≡ bitXor d 48) ⌝ }
+    ensures { λ r. ⌜ (r < 2 ^ 32) × (r % 256 ≡ bitXor a 48) × (r / 256 % 256 ≡ bitXor b 48) × (r / 65536 % 256 ≡ bitXor c 48) × (r / 16777216 ≡ bitXor d 48) ⌝ }
 {
-    (a as u64 + b as u64 * 256 + c as u64 * 65536 + d as u64 * 16777216) ^ (ZERO * EACH)
+    (a as u64 + b as u64 * 256 + c as u64 * 65536 + d as u64 * 16777216) ^ ZEROS
 }
 
-// What the four bytes of a word write, if each is worth a digit. Six more than 9 is 16, so a byte that is worth a digit has no
-// bit above the lowest four, neither as it is nor with six added. The four become two pairs, and the pairs one number.
+// What the four bytes of a word write, if each is worth a digit.
 fn written(w: u64) -> Number
-    requires { ⌜ w < 4294967296 ⌝ }
+    requires { ⌜ w < 2 ^ 32 ⌝ }
     ensures { λ r. ⌜ r ≡ digitsOf 4 ((w % 256 + 48) ∷ (w / 256 % 256 + 48) ∷ (w / 65536 % 256 + 48) ∷ (w / 16777216 + 48) ∷ []) ⌝ }
 {
-    let above = 240 * EACH;
-    if (w & above) | ((w + 6 * EACH) & above) != 0 {
+    if (w & UPPER) | ((w + SIXES) & UPPER) != 0 {
         return Number::No;
     }
-    let pairs = (w * 2561 / 256) & 0x00ff_00ff;
-    Number::Is(pairs * 6553601 / 65536 % 65536)
+    let pairs = (w * TENS / 256) & PAIRS;
+    Number::Is(pairs * HUNDREDS / 65536 % 65536)
 }
 
 // The four digits from a place on.
@@ -72,7 +85,7 @@ fn next(text: &[u8], at: usize) -> Number
     written(word(text[at], text[at + 1], text[at + 2], text[at + 3]))
 }
 
-// The first digits, at most four: zeros stand before them, and the later bytes of the word go.
+// The first digits, at most four: zeros come before them in the word, and its later bytes go.
 fn first(text: &[u8], count: usize) -> Number
     requires { ⌜ (count ≤ 4) × (4 ≤ length (now text)) ⌝ }
     ensures { λ r. ⌜ r ≡ digitsOf 4 (replicate (4 - count) 48 ++ take count (now (text .entry))) ⌝ }
@@ -123,7 +136,7 @@ fn middle(text: &[u8]) -> Number
     Number::Is(a * 10000 + b)
 }
 
-// 4 to 18 digits: the first one to four, then four a turn.
+// The same, where there may be more: the first one to four, then four a turn.
 fn long(text: &[u8]) -> Number
     requires { ⌜ (4 ≤ length (now text)) × (length (now text) ≤ 18) ⌝ }
     ensures { λ r. ⌜ r ≡ digitsOf 18 (now (text .entry)) ⌝ }
@@ -145,7 +158,7 @@ fn long(text: &[u8]) -> Number
     Number::Is(v)
 }
 
-// 4 digits or more, up to 18.
+// 4 to 18 digits.
 fn many(text: &[u8]) -> Number
     requires { ⌜ (4 ≤ length (now text)) × (length (now text) ≤ 18) ⌝ }
     ensures { λ r. ⌜ r ≡ digitsOf 18 (now (text .entry)) ⌝ }

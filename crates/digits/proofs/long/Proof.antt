@@ -1,6 +1,6 @@
 -- `digits::long` meets its contract: the whole answer is what is left gives, after the digits that wrote v. Assumes nothing.
 use Prim.Native.Nat.{_+_, _-_, _%_, _^_, _≤_, _<_}
-use mathlib.Core.Path.{_≡_, sym, ap, _∙_}
+use mathlib.Core.Path.{_≡_, sym, _∙_}
 use native.Mathlib.Omega.{arith}
 use lib.ListN.{length, drop}
 use Rattle.digits.specs.Digits.{digitsOf}

@@ -1,51 +1,38 @@
+-- `digits::next` meets its contract. Assumes nothing.
 use mathlib.Core.Path.{sym, ap, _∙_}
 use borrow.Author.Needs.{needs}
 use Rattle.digits.specs.Digits.{digitsOf}
-use Rattle.digits.proofs.Parts.{same-four, four-at}
+use Rattle.digits.proofs.Fours.{same-four, four-at}
 use Rattle.digits.proofs.next.Statement.{statement}
 use Rattle.digits.proofs.next.Tie as tie
-use Rattle.digits.proofs.next.Reads as reads
-use Rattle.digits.proofs.next.Lts as lts
-use Rattle.digits.proofs.word.Reads as word-reads
-use Rattle.digits.proofs.written.Reads as written-reads
 
--- src/lib.rt:72:18
 shared-slice-read-word : tie.Need-shared-slice-read-word
 shared-slice-read-word c = search needs
 
--- src/lib.rt:72:33
 add-word : tie.Need-add-word
 add-word c = search needs
 
--- src/lib.rt:72:28
 shared-slice-read-word-2 : tie.Need-shared-slice-read-word-2
 shared-slice-read-word-2 c = search needs
 
--- src/lib.rt:72:47
 add-word-2 : tie.Need-add-word-2
 add-word-2 c = search needs
 
--- src/lib.rt:72:42
 shared-slice-read-word-3 : tie.Need-shared-slice-read-word-3
 shared-slice-read-word-3 c = search needs
 
--- src/lib.rt:72:61
 add-word-3 : tie.Need-add-word-3
 add-word-3 c = search needs
 
--- src/lib.rt:72:56
 shared-slice-read-word-4 : tie.Need-shared-slice-read-word-4
 shared-slice-read-word-4 c = search needs
 
--- src/lib.rt:72:13
 word-requires : tie.Need-word-requires
 word-requires c κs = search needs
 
--- src/lib.rt:72:5
 written-requires : tie.Need-written-requires
 written-requires c κs = search needs
 
--- src/lib.rt:68:1
 returns : tie.Need-returns
 returns c =
     let p = c .before .before .before .before .before .before .before in

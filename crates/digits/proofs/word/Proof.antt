@@ -1,39 +1,27 @@
+-- `digits::word` meets its contract. Assumes nothing.
 use borrow.Author.Needs.{needs}
 use Rattle.digits.proofs.Words.{bytes-of}
 use Rattle.digits.proofs.word.Statement.{statement}
 use Rattle.digits.proofs.word.Tie as tie
-use Rattle.digits.proofs.word.Reads as reads
-use Rattle.digits.proofs.word.Lts as lts
 
--- src/lib.rt:50:17
 mul-result : tie.Need-mul-result
 mul-result c = search needs
 
--- src/lib.rt:50:6
 add-result : tie.Need-add-result
 add-result c = search needs
 
--- src/lib.rt:50:34
 mul-result-2 : tie.Need-mul-result-2
 mul-result-2 c = search needs
 
--- src/lib.rt:50:6
 add-result-2 : tie.Need-add-result-2
 add-result-2 c = search needs
 
--- src/lib.rt:50:53
 mul-result-3 : tie.Need-mul-result-3
 mul-result-3 c = search needs
 
--- src/lib.rt:50:6
 add-result-3 : tie.Need-add-result-3
 add-result-3 c = search needs
 
--- src/lib.rt:50:77
-mul-result-4 : tie.Need-mul-result-4
-mul-result-4 c = search needs
-
--- src/lib.rt:47:1
 returns : tie.Need-returns
 returns c = bytes-of (c .args .a) (c .args .b) (c .args .c) (c .args .d) (c .fits .a .fits) (c .fits .b .fits) (c .fits .c .fits) (c .fits .d .fits)
 
@@ -47,5 +35,4 @@ word-spec =
     add-result-2
     mul-result-3
     add-result-3
-    mul-result-4
     returns)
