@@ -57,10 +57,10 @@ module _ (s : List ℕ) (i v : ℕ) where
   abbrev byte : ℕ
   byte = getD s i 0
 
-  low : i < length s → byte < 48 → rest v (drop i s) ≡ No
+  pub low : i < length s → byte < 48 → rest v (drop i s) ≡ No
   low l h = simp (drop-cons s i 0 l, lt-leb 48 byte h)
 
-  high : i < length s → 57 < byte → rest v (drop i s) ≡ No
+  pub high : i < length s → 57 < byte → rest v (drop i s) ≡ No
   high l h = simp (drop-cons s i 0 l, le-leb 48 byte (omega arith), lt-leb byte 57 h)
 
   pub more : i < length s → 48 ≤ byte → byte ≤ 57 → rest v (drop i s) ≡ rest (v * 10 + (byte - 48)) (drop (i + 1) s)
