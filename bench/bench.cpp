@@ -456,12 +456,13 @@ template <uint64_t (*READ)(const uint8_t *, size_t)> Measured measured_reader(co
     return {columns(v, what), v.places.size(), [] {}, round, {}};
 }
 
-// The proved reader of digits beside its peer, and once a call that reads nothing.
+// The proved reader of digits beside the one before it and its peer in C, and once a call that reads nothing.
 void measure_digits(const Measure &measure) {
     const std::vector<Values> sorts = make_values();
     std::vector<Measured> all = {measured_reader<no_digits>(sorts[0], "nothing", 0)};
     for (const Values &v : sorts) {
         all.push_back(measured_reader<selkavorn_gauge_digits>(v, "digits", v.sum));
+        all.push_back(measured_reader<selkavorn_gauge_by_one>(v, "by one", v.sum));
         all.push_back(measured_reader<plain_digits>(v, "plain digits", v.sum));
     }
     measure(all);

@@ -3,8 +3,8 @@
 aim is met."""
 import sys
 
-from results import (DEPTHS, EVEN, MACHINES, MIXED, MOST_SPREAD, SCANS, STARTS, STATES, VALUES, Case, cases, load, median, message_name,
-                     row_name, spread, values_name)
+from results import (DEPTHS, EVEN, MACHINES, MIXED, MOST_SPREAD, SCANS, STARTS, STATES, VALUES, Case, Values, cases, load, median,
+                     message_name, row_name, spread, values_name)
 
 CALLS = ("open", "feed", "quote", "sell", "buy", "write", "state", "board", "salvage")
 MOST_STACK = 24576  # bytes
@@ -21,6 +21,14 @@ AIMS = (
      lambda waiting: [case for case in cases(waiting) if case.entries == 10], "feed", "book", lambda ratio: ratio < 0.4),
     ("the walk of a whole recording takes at most 0.2 of QuickFIX's parse",
      lambda waiting: [EVEN, MIXED] if waiting == 0 else [], "salvage", "parse", lambda ratio: ratio <= 0.2),
+)
+# Aims on the instructions of the reader of digits, beyond those of a call that reads nothing: of which values, and the most that it may
+# take of what one digit a turn takes.
+LONG_VALUES = [Values(digits, "good") for digits in ("5", "8", "12", "18")]
+DIGIT_AIMS = (
+    ("reading 5 digits and more takes at most 2/3 of the instructions of one a turn", LONG_VALUES, 2 / 3),
+    ("reading fewer digits, or bad ones, takes no more instructions than one a turn",
+     [values for values in VALUES if values not in LONG_VALUES and " to " not in values.digits], 1),
 )
 STACK_AIM = f"the deepest stack is under {MOST_STACK:,} bytes"
 
@@ -45,7 +53,8 @@ SCAN_ROWS = (("scan", "scan, order ids of 10 bytes"), ("mixed scan", "scan, orde
              ("far scan", "scan, prices of 900,000,000 and more"),
              ("loop", "bare loop, sixteen numbers at a time: the floor"), ("plain loop", "bare loop, one number after the other"),
              ("scalar loop", "bare loop, one number to an instruction"))
-DIGIT_ROWS = (("nothing", "a call that reads nothing"), ("digits", "proved reader"), ("plain digits", "plain loop in C"))
+DIGIT_ROWS = (("nothing", "a call that reads nothing"), ("digits", "proved reader"), ("by one", "proved, one digit a turn"),
+              ("plain digits", "plain loop in C, one digit a turn"))
 WALK_ROWS = (("salvage", "walk"), ("salvage, 1 byte in 1000 damaged", "walk, 1 byte in 1,000 damaged"),
              ("salvage, 1 byte in 10 damaged", "walk, 1 byte in 10 damaged"), ("parse", "QuickFIX: parse of each message"))
 # What a recording holds, and what its rows are.
@@ -98,14 +107,15 @@ NOTES = """\
   the run fails where there are not 20 bids, or where a lot that is timed is not answered 0. `selkavorn_buy` does the same with the
   offers: its stack is measured, and it is not timed.
 - The reader of digits is `digits::digits` with a width of 18, exported by itself (`crates/gauge`): in the archive that users link it is
-  taken into its callers, so that a call of it there may take less. Its peer is a loop in C that reads one digit a turn
-  (`bench/digits.c`). Of each sort there are 16,384 values (`bench/values.cpp`), the same in every run, end to end with a SOH behind
-  each. Digits are drawn, the first from 1 to 9, and so are lengths where they differ, evenly. A bad value has one byte that is no digit,
-  at a drawn place: `/`, `:`, or a drawn one. They are so many that the processor cannot know by heart where a value ends or is bad: in
-  a reader that goes by that, its wrong guesses are in the time. A round reads all of a sort, a call each, and fails where the sum of the
-  answers is not that of what was written. What a digit takes is what a value takes over how many bytes it has, also where it is bad
-  and not read to its end. Before anything is timed, both readers must answer the same to all these values, and to texts of 0 to 20
-  bytes with every byte at every place.
+  taken into its callers, so that a call of it there may take less. Beside it stands the proved reader that it took the place of, which
+  reads one digit a turn and has the same contract, and such a loop in C (`bench/digits.c`). Of each sort there are 16,384 values
+  (`bench/values.cpp`), the same in every run, end to end with a SOH behind each. Digits are drawn, the first from 1 to 9, and so are
+  lengths where they differ, evenly. A bad value has one byte that is no digit, at a drawn place: `/`, `:`, or a drawn one. They are so
+  many that the processor cannot know by heart where a value ends or is bad: in a reader that goes by that, its wrong guesses are in the
+  time. A round reads all of a sort, a call each, and fails where the sum of the answers is not that of what was written. The time of a
+  digit is that of a value over how many bytes it has, also where it is bad and not read to its end; its instructions are so too, without
+  those of a call that reads nothing. Before anything is timed, all three must answer the same to all these values, and to texts of 0 to
+  20 bytes with every byte at every place.
 - A recording (`bench/recordings.cpp`) is messages of such streams end to end, at order depth, the same in every run: X of 1 entry
   alone; or mixed, with, of 16 messages on average, ten X of 1 entry, three of 4, one of 10, a heartbeat and a snapshot of 40 entries.
   Both are longer than a usual second-level cache. A damaged byte is replaced by a drawn one. Where that is one in 10, next to no
@@ -205,15 +215,26 @@ def others(runs):
     return table(["call"] + of_machines(runs, "ns", "lowest to highest", "instructions"), rows)
 
 
+def beyond_call(run, values, what):
+    """The instructions of a reader of digits beyond those of a call that reads nothing."""
+    return run.instructions[values, what] - run.instructions[VALUES[0], "nothing"]
+
+
+def digit_share(run, values):
+    return beyond_call(run, values, "digits") / beyond_call(run, values, "by one")
+
+
 def digit_figures(run, values, what):
-    """The cells of a reader of digits on one machine: of a value time, span and instructions, of a digit both, and its share of the plain
-    loop's time."""
+    """The cells of a reader of digits on one machine: of a value time, span and instructions, of a digit both, and its shares of the time
+    and the instructions of one digit a turn."""
     cells = figures(run, values, what, 1)
     if what == "nothing":
-        return cells + ["-"] * 3
-    length, instructions = run.bytes[values, what], run.instructions[values, what]
-    cells += [number(median(run.ns(values, what)) / length, 1), number(instructions and instructions / length, 1)]
-    return cells + [ratio(run.ratios(values, what, "plain digits")) if what == "digits" else "-"]
+        return cells + ["-"] * 4
+    length = run.bytes[values, what]
+    cells += [number(median(run.ns(values, what)) / length, 1), number(beyond_call(run, values, what) / length, 1)]
+    if what != "digits":
+        return cells + ["-"] * 2
+    return cells + [ratio(run.ratios(values, what, "by one")), f"{digit_share(run, values):.2f}"]
 
 
 def digits(runs):
@@ -224,7 +245,8 @@ def digits(runs):
             if (values, what) in runs[0].times:
                 rows.append([name, meaning] + [cell for run in runs for cell in digit_figures(run, values, what)])
                 name = ""
-    heads = of_machines(runs, "ns a value", "lowest to highest", "instructions", "ns a digit", "instructions a digit", "proved / plain")
+    heads = of_machines(runs, "ns a value", "lowest to highest", "instructions", "ns a digit", "instructions a digit", "time / one a turn",
+                        "instructions / one a turn")
     return table(["values", ""] + heads, rows, 2)
 
 
@@ -281,6 +303,9 @@ def judged(run):
     for says, of, what, other, is_good in AIMS:
         found = [[r for case in of(waiting) for r in run.ratios(case, what, other)] for waiting in range(len(STATES))]
         yield says, [f"{max(values):.2f}" if values else "-" for values in found], verdict([is_good(r) for r in found[0]])
+    for says, of, most in DIGIT_AIMS:
+        shares = [digit_share(run, values) for values in of]
+        yield says, [f"{max(shares):.2f}", "-"], verdict([share <= most for share in shares])
     deepest = max(depth for of in run.stacks.values() for depth in of.values())
     yield STACK_AIM, [number(deepest)] * len(STATES), verdict([deepest < MOST_STACK])
 

@@ -47,8 +47,10 @@ Values values_of(unsigned shortest, unsigned longest, bool good) {
 // Says what the readers answer to a value where that differs, or nothing.
 std::string difference(const std::string &value) {
     const uint8_t *const at = reinterpret_cast<const uint8_t *>(value.data());
-    const uint64_t ours = selkavorn_gauge_digits(at, value.size()), theirs = plain_digits(at, value.size());
-    return ours == theirs ? "" : "'" + value + "' is answered " + std::to_string(ours) + " and " + std::to_string(theirs);
+    const uint64_t now = selkavorn_gauge_digits(at, value.size()), before = selkavorn_gauge_by_one(at, value.size()),
+                   plain = plain_digits(at, value.size());
+    if (now == plain && before == plain) return "";
+    return "'" + value + "' is answered " + std::to_string(now) + ", before " + std::to_string(before) + ", and " + std::to_string(plain);
 }
 
 // The same for a text and all that differ from it in one byte.

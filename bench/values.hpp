@@ -22,6 +22,6 @@ struct Values {
 // byte that is no digit, at a drawn place.
 std::vector<Values> make_values();
 
-// Says where the proved reader and its peer first differ, or nothing: on all these values, and on every length from 0 to 20 with every
+// Says where the proved readers and their peer first differ, or nothing: on all these values, and on every length from 0 to 20 with every
 // byte at every place.
 std::string reading_difference();
