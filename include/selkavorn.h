@@ -160,7 +160,8 @@ extern "C" {
 #endif
 
 /* The version: of this header and of the archive that it came with. The first number changes when a
- * program that was right may have to change, the second when something is added.
+ * program that was right may have to change, the second when something is added, the third when
+ * the archive changed and nothing here did.
  *
  * From 3.0 to 3.1
  *   A J without 48, 22 and 207 is read, and empties every book at that point of its message; before
@@ -177,8 +178,8 @@ extern "C" {
  *   A store of before is 17 until it is opened afresh, and then waits for snapshots. */
 #define SELKAVORN_VERSION_MAJOR 3
 #define SELKAVORN_VERSION_MINOR 1
-#define SELKAVORN_VERSION_PATCH 0
-#define SELKAVORN_VERSION "3.1.0"
+#define SELKAVORN_VERSION_PATCH 1
+#define SELKAVORN_VERSION "3.1.1"
 
 #define SELKAVORN_STORE_NUMBERS 7168     /* numbers that a store has at least */
 #define SELKAVORN_QUOTE_NUMBERS 17       /* numbers that a quote writes */

@@ -1,7 +1,8 @@
 pub mod Width
 pub mod Words
 pub mod Steps
-pub mod Few
+pub mod Singly
 pub mod Fours
 pub mod Parts
+pub mod Plain
 pub mod Ranges

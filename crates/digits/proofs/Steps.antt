@@ -1,13 +1,13 @@
 -- What is left of the digits, a byte at a time. Assumes nothing.
 use mathlib.Core.Path.{_≡_, refl, sym, ap, _∙_}
 use mathlib.Core.List.{List}
-use mathlib.Core.Bool.{Bool, true, false, cond}
+use mathlib.Core.Bool.{Bool, true, false, cond, _&&_}
 use Prim.Native.Nat.{ℕ, _+_, _-_, _*_, _≤_, _<_}
 use lib.Bits.{bitXor}
 use native.Mathlib.Omega.{arith}
 use native.Mathlib.Numerals.{add-one}
 use borrow.Author.Tests.{le-leb, lt-leb, leb-true, leb-false, eq-eqb, ne-eqb}
-use lib.Dec.{leb}
+use lib.Dec.{leb, eqb}
 use lib.ListN.{length, getD, drop, drop-of-length-le}
 use lib.Seq.{drop-cons}
 use Rattle.digits.specs.Digits.{digitsOf, wholeOf, allDigits, value}
@@ -40,6 +40,15 @@ module _ (s : List ℕ) (w : ℕ) where
   pub widest : 1 ≤ length s → length s ≤ w → w ≤ 18 → digitsOf 18 s ≡ digitsOf w s
   unfolding digitsOf
   widest l h k = simp (le-leb 1 (length s) l, le-leb (length s) w h, le-leb w 18 k, le-leb (length s) 18 (omega arith))
+
+  -- whether a zero leads
+  pub led : leb 2 (length s) && eqb (getD s 0 0) 48 ≡ true → wholeOf w s ≡ No
+  unfolding wholeOf
+  led e = ap (λ (t : Bool). cond t No (digitsOf w s)) e
+
+  pub unled : leb 2 (length s) && eqb (getD s 0 0) 48 ≡ false → wholeOf w s ≡ digitsOf w s
+  unfolding wholeOf
+  unled e = ap (λ (t : Bool). cond t No (digitsOf w s)) e
 
   pub short : length s ≤ 1 → wholeOf w s ≡ digitsOf w s
   unfolding wholeOf

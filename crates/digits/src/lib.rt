@@ -6,7 +6,9 @@
 ghost use mathlib.Core.Path.{_≡_};
 ghost use mathlib.Core.List.{[], _∷_, _++_};
 ghost use Prim.Native.Nat.{_+_, _-_, _/_, _%_, _^_, _≤_, _<_};
+ghost use mathlib.Core.Bool.{_&&_, cond};
 ghost use lib.Bits.{bitXor};
+ghost use lib.Dec.{leb, eqb};
 ghost use lib.ListN.{length, getD, take, drop, replicate};
 ghost use Rattle.digits.specs.Digits.{digitsOf, wholeOf, rangedOf};
 
@@ -18,6 +20,12 @@ pub enum Number {
 
 // As many digits as are sure to fit 64 bits with one more.
 const WIDEST: usize = 18;
+
+// Up to so many digits are read one by one.
+const FEW: usize = 3;
+
+// No number: above every one of 18 digits.
+const NONE: u64 = 18446744073709551615;
 
 // '0'.
 const ZERO: u64 = 48;
@@ -169,37 +177,97 @@ fn many(text: &[u8]) -> Number
     long(text)
 }
 
-// 1 to width digits, leading zeros allowed; a width above 18 reads nothing.
-pub fn digits(text: &[u8], width: usize) -> Number
+// 1 to width digits as their number, or NONE. Two functions call it, so the compiler leaves it by itself, and its answer is a plain
+// number: taken into each reader of a field, or with the enum as its answer, it made them slower.
+fn read(text: &[u8], width: usize) -> u64
+    ensures { λ r. ⌜ digitsOf width (now (text .entry)) ≡ cond (eqb r 18446744073709551615) Number.No (Number.Is r) ⌝ }
+{
+    let n = text.len();
+    if n == 0 {
+        return NONE;
+    }
+    if width < n {
+        return NONE;
+    }
+    if WIDEST < width {
+        return NONE;
+    }
+    if n <= FEW {
+        let Number::Is(v) = short(text) else {
+            return NONE;
+        };
+        return v;
+    }
+    let Number::Is(v) = many(text) else {
+        return NONE;
+    };
+    v
+}
+
+// 1 to width digits where these are few: one a turn, which the compiler lays out for the width that it is asked.
+fn few(text: &[u8], width: usize) -> Number
+    requires { ⌜ width ≤ 3 ⌝ }
     ensures { λ r. ⌜ r ≡ digitsOf width (now (text .entry)) ⌝ }
 {
     let n = text.len();
     if n == 0 {
         return Number::No;
     }
-    if width < n {
+    if n > width {
         return Number::No;
     }
-    if WIDEST < width {
+    let mut v: u64 = 0;
+    let mut i: usize = 0;
+    while i < n {
+        let d = worth(text[i]);
+        if 9 < d {
+            return Number::No;
+        }
+        v = v * 10 + d;
+        i += 1;
+    }
+    Number::Is(v)
+}
+
+// 1 to width digits, leading zeros allowed; a width above 18 reads nothing.
+pub fn digits(text: &[u8], width: usize) -> Number
+    ensures { λ r. ⌜ r ≡ digitsOf width (now (text .entry)) ⌝ }
+{
+    if width <= FEW {
+        return few(text, width);
+    }
+    let v = read(text, width);
+    if v == NONE {
         return Number::No;
     }
-    if 3 < n {
-        return many(text);
+    Number::Is(v)
+}
+
+// Whether a zero stands before other bytes.
+fn leads(text: &[u8]) -> bool
+    ensures { λ r. ⌜ r ≡ leb 2 (length (now (text .entry))) && eqb (getD (now (text .entry)) 0 0) 48 ⌝ }
+{
+    if text.len() <= 1 {
+        return false;
     }
-    short(text)
+    text[0] == 48
 }
 
 // A whole number: 1 to width digits without a leading zero, except 0 itself.
 pub fn whole(text: &[u8], width: usize) -> Number
     ensures { λ r. ⌜ r ≡ wholeOf width (now (text .entry)) ⌝ }
 {
-    if text.len() <= 1 {
-        return digits(text, width);
-    }
-    if text[0] == 48 {
+    if leads(text) {
         return Number::No;
     }
-    digits(text, width)
+    if width <= FEW {
+        return few(text, width);
+    }
+    let v = read(text, width);
+    if v == NONE {
+        return Number::No;
+    }
+    Number::Is(v)
 }
 
 // A whole number of at most width digits, from low to high.

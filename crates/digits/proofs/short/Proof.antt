@@ -1,7 +1,7 @@
 -- `digits::short` meets its contract: one digit after the other. Assumes nothing.
 use mathlib.Core.Path.{sym}
 use borrow.Author.Needs.{needs}
-use Rattle.digits.proofs.Few.{no-first, is-one, no-second, is-two, no-third, is-three}
+use Rattle.digits.proofs.Singly.{no-first, is-one, no-second, is-two, no-third, is-three}
 use Rattle.digits.proofs.short.Statement.{statement}
 use Rattle.digits.proofs.short.Tie as tie
 
