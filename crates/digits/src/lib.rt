@@ -2,7 +2,8 @@
 // every field (document 01, "Fields": whole numbers). A field's tag is read by `chain::tag_at`, which finds the '=' behind
 // it in the same loop; its meaning is `ranged` of the bytes before '=', shown by the laws of this crate. What a digit is worth
 // is known here alone (`worth`).
-// Up to three digits are read one by one, more of them four at a time (document 02, K3).
+// Up to three digits are read one by one, more of them four at a time (document 02, K3). How this is cut into functions was measured:
+// docs/PROVING.md says what the compiler makes of it.
 ghost use mathlib.Core.Path.{_≡_};
 ghost use mathlib.Core.List.{[], _∷_, _++_};
 ghost use Prim.Native.Nat.{_+_, _-_, _/_, _%_, _^_, _≤_, _<_};
@@ -39,17 +40,19 @@ const WORDS: u64 = 0x1_0000_0000;
 // Four bytes that are '0'.
 const ZEROS: u64 = ZERO * EACH;
 
-// The upper four bits of each byte, and a word of sixes: of 0 to 15 those up to 9 have no such bit with six added, 10 and more have.
+// The upper four bits of each byte.
 const UPPER: u64 = 240 * EACH;
 
+// Six in each byte: of 0 to 15 those up to 9 have no upper bit with six added, 10 and more have.
 const SIXES: u64 = 6 * EACH;
 
-// A word of digits times TENS has, from its second byte on, ten times each digit and the next. Its pairs are at the first and the
-// third then, and times HUNDREDS they have a hundred times the first and the second from the third byte on.
+// A word of digits times this has, from its second byte on, ten times each digit and the next one.
 const TENS: u64 = 10 * 256 + 1;
 
+// Where the pairs of digits stand then: the first and the third byte.
 const PAIRS: u64 = 0x00ff_00ff;
 
+// These pairs times this have, from the third byte on, a hundred times the first and the second.
 const HUNDREDS: u64 = 100 * 65536 + 1;
 
 // A byte as a number.
@@ -177,8 +180,7 @@ fn many(text: &[u8]) -> Number
     long(text)
 }
 
-// 1 to width digits as their number, or NONE. Two functions call it, so the compiler leaves it by itself, and its answer is a plain
-// number: taken into each reader of a field, or with the enum as its answer, it made them slower.
+// 1 to width digits as their number, or NONE.
 fn read(text: &[u8], width: usize) -> u64
     ensures { λ r. ⌜ digitsOf width (now (text .entry)) ≡ cond (eqb r 18446744073709551615) Number.No (Number.Is r) ⌝ }
 {
@@ -204,7 +206,7 @@ fn read(text: &[u8], width: usize) -> u64
     v
 }
 
-// 1 to width digits where these are few: one a turn, which the compiler lays out for the width that it is asked.
+// 1 to width digits where these are few, one a turn.
 fn few(text: &[u8], width: usize) -> Number
     requires { ⌜ width ≤ 3 ⌝ }
     ensures { λ r. ⌜ r ≡ digitsOf width (now (text .entry)) ⌝ }
