@@ -22,7 +22,7 @@ stop v bs e = ap (λ (t : Bool). cond t (Is (value v bs)) No) e
 here : (x : ℕ) (bs : List ℕ) → 9 < x → allDigits ((x + 48) ∷ bs) ≡ false
 here x bs h = simp (le-leb 48 (x + 48) (omega arith), lt-leb (x + 48) 57 (omega arith))
 
-later : (b : ℕ) (bs : List ℕ) → allDigits bs ≡ false → allDigits (b ∷ bs) ≡ false
+pub later : (b : ℕ) (bs : List ℕ) → allDigits bs ≡ false → allDigits (b ∷ bs) ≡ false
 later b bs e = ap (λ (t : Bool). isDigit b && t) e ∙ and-false (isDigit b)
 
 -- ---- what a word writes
@@ -45,7 +45,7 @@ module _ (a b c d : ℕ) where
       go true true true false e f g h = later (a + 48) ((b + 48) ∷ (c + 48) ∷ (d + 48) ∷ []) (later (b + 48) ((c + 48) ∷ (d + 48) ∷ []) (later (c + 48) ((d + 48) ∷ []) (here d [] (leb-false d 9 h))))
       go true true true true e f g h = absurd (n (record { first = leb-true a 9 e; second = leb-true b 9 f; third = leb-true c 9 g; last = leb-true d 9 h }))
 
-abbrev bytes : ℕ → List ℕ
+abbrev pub bytes : ℕ → List ℕ
 bytes w = (w % 256 + 48) ∷ (w / 256 % 256 + 48) ∷ (w / 65536 % 256 + 48) ∷ (w / 16777216 + 48) ∷ []
 
 module _ (w : ℕ) (h : w < 2 ^ 32) where
@@ -61,11 +61,11 @@ module _ (w : ℕ) (h : w < 2 ^ 32) where
   writes-none n = fit (bytes w) 4 (omega arith) (omega arith) (omega arith) ∙ four-no (w % 256) (w / 256 % 256) (w / 65536 % 256) (w / 16777216) (λ z. n (ap above joined ∙ none-above _ _ _ _ z))
 
 -- ---- bytes that are known by what they are worth
-abbrev again : ℕ → ℕ
+abbrev pub again : ℕ → ℕ
 again b = bitXor b 48 + 48
 
 -- those that are digits are themselves, and the others are none
-same : (v : ℕ) (bs : List ℕ) → rest v (map again bs) ≡ rest v bs
+pub same : (v : ℕ) (bs : List ℕ) → rest v (map again bs) ≡ rest v bs
 same v [] = refl
 same v (b ∷ bs) = go (same (v * 10 + bitXor b 48) bs) (leb (bitXor b 48) 9) refl
   where
@@ -80,11 +80,12 @@ same v (b ∷ bs) = go (same (v * 10 + bitXor b 48) bs) (leb (bitXor b 48) 9) re
         stop v (map again (b ∷ bs)) (here (bitXor b 48) (map again bs) h) ∙ sym (other (b ∷ bs) 0 v (bitXor b 48) refl (omega arith) h)
 
 -- four bytes that are known by a word of what they are worth
-module _ (w a b c d : ℕ) (e : w % 256 ≡ bitXor a 48) (f : w / 256 % 256 ≡ bitXor b 48) (g : w / 65536 % 256 ≡ bitXor c 48) (h : w / 16777216 ≡ bitXor d 48) where
-  pub same-four : digitsOf 4 (bytes w) ≡ digitsOf 4 (a ∷ b ∷ c ∷ d ∷ [])
-  same-four =
-      let k : bytes w ≡ map again (a ∷ b ∷ c ∷ d ∷ []) = rw (e, f, g, h) in
-      ap (digitsOf 4) k ∙ fit (map again (a ∷ b ∷ c ∷ d ∷ [])) 4 (omega arith) (omega arith) (omega arith) ∙ same 0 (a ∷ b ∷ c ∷ d ∷ []) ∙ sym (fit (a ∷ b ∷ c ∷ d ∷ []) 4 (omega arith) (omega arith) (omega arith))
+pub known : (w a b c d : ℕ) → w % 256 ≡ bitXor a 48 → w / 256 % 256 ≡ bitXor b 48 → w / 65536 % 256 ≡ bitXor c 48 → w / 16777216 ≡ bitXor d 48 → bytes w ≡ map again (a ∷ b ∷ c ∷ d ∷ [])
+known w a b c d e f g h = rw (e, f, g, h)
+
+-- four bytes are read by what they are worth
+pub same-digits : (w : ℕ) (bs : List ℕ) → bytes w ≡ map again bs → length bs ≡ 4 → digitsOf 4 (bytes w) ≡ digitsOf 4 bs
+same-digits w bs e l = fit (bytes w) 4 (omega arith) (omega arith) (omega arith) ∙ ap (rest 0) e ∙ same 0 bs ∙ sym (fit bs 4 (omega arith) (omega arith) (omega arith))
 
 -- the four bytes from a place on
 front : (t : List ℕ) → 4 ≤ length t → take 4 t ≡ getD t 0 0 ∷ getD t 1 0 ∷ getD t 2 0 ∷ getD t 3 0 ∷ []
@@ -97,16 +98,19 @@ front (a ∷ b ∷ c ∷ d ∷ t) h = refl
 pub four-at : (s : List ℕ) (i : ℕ) → i + 4 ≤ length s → take 4 (drop i s) ≡ getD s i 0 ∷ getD s (i + 1) 0 ∷ getD s (i + 2) 0 ∷ getD s (i + 3) 0 ∷ []
 four-at s i l = front (drop i s) (omega (arith, length-drop i s)) ∙ rw (getD-drop i s 0 0, getD-drop i s 1 0, getD-drop i s 2 0, getD-drop i s 3 0, add-zero)
 
+pub four-known : (w : ℕ) (s : List ℕ) (i : ℕ) → i + 4 ≤ length s → w % 256 ≡ bitXor (getD s i 0) 48 → w / 256 % 256 ≡ bitXor (getD s (i + 1) 0) 48 → w / 65536 % 256 ≡ bitXor (getD s (i + 2) 0) 48 → w / 16777216 ≡ bitXor (getD s (i + 3) 0) 48 → bytes w ≡ map again (take 4 (drop i s))
+four-known w s i l e f g h = known w (getD s i 0) (getD s (i + 1) 0) (getD s (i + 2) 0) (getD s (i + 3) 0) e f g h ∙ ap (map again) (sym (four-at s i l))
+
 -- the first of four bytes, behind zeros: the others go
 module _ (w : ℕ) (u : w < 2 ^ 32) where
-  pub first-of : (s : List ℕ) → 4 ≤ length s → w % 256 ≡ bitXor (getD s 0 0) 48 → w / 256 % 256 ≡ bitXor (getD s 1 0) 48 → w / 65536 % 256 ≡ bitXor (getD s 2 0) 48 → w / 16777216 ≡ bitXor (getD s 3 0) 48 → (k : ℕ) → k ≤ 4 → digitsOf 4 (bytes (w * 2 ^ (32 - 8 * k) % 2 ^ 64 % 2 ^ 32)) ≡ digitsOf 4 (replicate (4 - k) 48 ++ take k s)
-  first-of [] l e f g h k j = absurd (omega arith)
-  first-of (a ∷ []) l e f g h k j = absurd (omega arith)
-  first-of (a ∷ b ∷ []) l e f g h k j = absurd (omega arith)
-  first-of (a ∷ b ∷ c ∷ []) l e f g h k j = absurd (omega arith)
-  first-of (a ∷ b ∷ c ∷ d ∷ t) l e f g h zero j = same-four (w * 2 ^ 32 % 2 ^ 64 % 2 ^ 32) 48 48 48 48 (omega arith) (omega arith) (omega arith) (omega arith)
-  first-of (a ∷ b ∷ c ∷ d ∷ t) l e f g h (suc zero) j = same-four (w * 16777216 % 2 ^ 64 % 2 ^ 32) 48 48 48 a (omega arith) (omega arith) (omega arith) (omega arith)
-  first-of (a ∷ b ∷ c ∷ d ∷ t) l e f g h (suc (suc zero)) j = same-four (w * 65536 % 2 ^ 64 % 2 ^ 32) 48 48 a b (omega arith) (omega arith) (omega arith) (omega arith)
-  first-of (a ∷ b ∷ c ∷ d ∷ t) l e f g h (suc (suc (suc zero))) j = same-four (w * 256 % 2 ^ 64 % 2 ^ 32) 48 a b c (omega arith) (omega arith) (omega arith) (omega arith)
-  first-of (a ∷ b ∷ c ∷ d ∷ t) l e f g h (suc (suc (suc (suc zero)))) j = same-four (w * 1 % 2 ^ 64 % 2 ^ 32) a b c d (omega arith) (omega arith) (omega arith) (omega arith)
-  first-of (a ∷ b ∷ c ∷ d ∷ t) l e f g h (suc (suc (suc (suc (suc k))))) j = absurd (omega arith)
+  pub first-known : (s : List ℕ) → 4 ≤ length s → w % 256 ≡ bitXor (getD s 0 0) 48 → w / 256 % 256 ≡ bitXor (getD s 1 0) 48 → w / 65536 % 256 ≡ bitXor (getD s 2 0) 48 → w / 16777216 ≡ bitXor (getD s 3 0) 48 → (k : ℕ) → k ≤ 4 → bytes (w * 2 ^ (32 - 8 * k) % 2 ^ 64 % 2 ^ 32) ≡ map again (replicate (4 - k) 48 ++ take k s)
+  first-known [] l e f g h k j = absurd (omega arith)
+  first-known (a ∷ []) l e f g h k j = absurd (omega arith)
+  first-known (a ∷ b ∷ []) l e f g h k j = absurd (omega arith)
+  first-known (a ∷ b ∷ c ∷ []) l e f g h k j = absurd (omega arith)
+  first-known (a ∷ b ∷ c ∷ d ∷ t) l e f g h zero j = known (w * 2 ^ 32 % 2 ^ 64 % 2 ^ 32) 48 48 48 48 (omega arith) (omega arith) (omega arith) (omega arith)
+  first-known (a ∷ b ∷ c ∷ d ∷ t) l e f g h (suc zero) j = known (w * 16777216 % 2 ^ 64 % 2 ^ 32) 48 48 48 a (omega arith) (omega arith) (omega arith) (omega arith)
+  first-known (a ∷ b ∷ c ∷ d ∷ t) l e f g h (suc (suc zero)) j = known (w * 65536 % 2 ^ 64 % 2 ^ 32) 48 48 a b (omega arith) (omega arith) (omega arith) (omega arith)
+  first-known (a ∷ b ∷ c ∷ d ∷ t) l e f g h (suc (suc (suc zero))) j = known (w * 256 % 2 ^ 64 % 2 ^ 32) 48 a b c (omega arith) (omega arith) (omega arith) (omega arith)
+  first-known (a ∷ b ∷ c ∷ d ∷ t) l e f g h (suc (suc (suc (suc zero)))) j = known (w * 1 % 2 ^ 64 % 2 ^ 32) a b c d (omega arith) (omega arith) (omega arith) (omega arith)
+  first-known (a ∷ b ∷ c ∷ d ∷ t) l e f g h (suc (suc (suc (suc (suc k))))) j = absurd (omega arith)

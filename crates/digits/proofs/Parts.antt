@@ -1,17 +1,21 @@
 -- Digits read in parts of up to four. Assumes nothing.
 use mathlib.Core.Path.{_≡_, refl, sym, ap, _∙_}
-use mathlib.Core.List.{List, [], _∷_, _++_}
+use mathlib.Core.List.{List, [], _∷_, _++_, map, map-append, append-assoc}
 use mathlib.Core.Bool.{Bool, true, false, cond, _&&_, false≢true}
-use Prim.Native.Nat.{ℕ, zero, suc, _+_, _-_, _*_, _^_, _≤_, _<_}
+use Prim.Native.Nat.{ℕ, zero, suc, _+_, _-_, _*_, _/_, _%_, _^_, _≤_, _<_}
 use native.Mathlib.Nat.{zero-add}
 use native.Mathlib.Omega.{arith}
+use borrow.Author.Tests.{eqb-true, eqb-false}
+use lib.Bits.{bitAnd}
+use lib.Dec.{eqb}
 use lib.ListN.{length, take, drop, replicate, length-drop, length-append, length-replicate, take-append-drop}
-use lib.Seq.{drop-drop, length-take-le}
+use lib.Seq.{drop-drop, length-take-le, take-all}
 use Rattle.digits.specs.Digits.{digitsOf, isDigit, allDigits, value}
 use Rattle.digits.specs.declared.Number.the-variants.{Is, No}
 use Rattle.digits.proofs.Width.{both, cond-is, value-lt}
 use Rattle.digits.proofs.Steps.{rest, fit}
-use Rattle.digits.proofs.Fours.{stop, four-at}
+use Rattle.digits.proofs.Words.{above, above-both, none-both, each-none}
+use Rattle.digits.proofs.Fours.{stop, later, bytes, writes, writes-none, again, same, four-at}
 
 -- ---- a part of the digits, and what is left
 pub begun : (s : List ℕ) → 4 ≤ length s → length s ≤ 18 → digitsOf 18 s ≡ rest 0 s
@@ -40,10 +44,61 @@ zeros : (j : ℕ) (bs : List ℕ) → rest 0 (replicate j 48 ++ bs) ≡ rest 0 b
 zeros zero bs = refl
 zeros (suc j) bs = zeros j bs
 
+-- ---- eight bytes
+none-later : (bs cs : List ℕ) → allDigits cs ≡ false → allDigits (bs ++ cs) ≡ false
+none-later [] cs h = h
+none-later (b ∷ bs) cs h = later b (bs ++ cs) (none-later bs cs h)
+
+abbrev pub number : ℕ → ℕ
+number w = bitAnd (w * 2561 / 256) 0x00ff_00ff * 6553601 / 65536 % 65536
+
+module _ (a b : ℕ) (la : a < 2 ^ 32) (lb : b < 2 ^ 32) where
+  all-eight : digitsOf 8 (bytes a ++ bytes b) ≡ rest 0 (bytes a ++ bytes b)
+  all-eight = fit (bytes a ++ bytes b) 8 (omega arith) (omega arith) (omega arith)
+
+  is-four : (w : ℕ) → w < 2 ^ 32 → above w ≡ 0 → (allDigits (bytes w) ≡ true) × (value 0 (bytes w) ≡ number w)
+  is-four w l e = cond-is (allDigits (bytes w)) (value 0 (bytes w)) (number w) (sym (fit (bytes w) 4 (omega arith) (omega arith) (omega arith)) ∙ writes w l e)
+
+  no-four : (w : ℕ) → w < 2 ^ 32 → (above w ≡ 0 → ⊥) → allDigits (bytes w) ≡ false
+  no-four w l n = is-none (allDigits (bytes w)) (value 0 (bytes w)) (sym (fit (bytes w) 4 (omega arith) (omega arith) (omega arith)) ∙ writes-none w l n)
+
+  pub writes-both : above-both (a + b * 2 ^ 32) ≡ 0 → digitsOf 8 (bytes a ++ bytes b) ≡ Is (number a * 10000 + number b)
+  writes-both e =
+      let z = each-none a b la lb e in
+      let x = is-four a la (z .0) in
+      let y = is-four b lb (z .1) in
+      let v : value (value 0 (bytes a)) (bytes b) ≡ value 0 (bytes a) * 10000 + value 0 (bytes b) = omega arith in
+      all-eight ∙ split 0 (bytes a) (bytes b) (x .0) ∙ ap (λ (t : Bool). cond t (Is (value (value 0 (bytes a)) (bytes b))) No) (y .0) ∙ ap Is (v ∙ ap (λ (u : ℕ). u * 10000 + value 0 (bytes b)) (x .1) ∙ ap (λ (u : ℕ). number a * 10000 + u) (y .1))
+
+  pub writes-both-none : (above-both (a + b * 2 ^ 32) ≡ 0 → ⊥) → digitsOf 8 (bytes a ++ bytes b) ≡ No
+  writes-both-none n = all-eight ∙ stop 0 (bytes a ++ bytes b) (go (eqb (above a) 0) (eqb (above b) 0) refl refl)
+    where
+      go : (p q : Bool) → eqb (above a) 0 ≡ p → eqb (above b) 0 ≡ q → allDigits (bytes a ++ bytes b) ≡ false
+      go false q e f = none-of (bytes a) (bytes b) (no-four a la (eqb-false (above a) 0 e))
+      go true false e f = none-later (bytes a) (bytes b) (no-four b lb (eqb-false (above b) 0 f))
+      go true true e f = absurd (n (none-both a b la lb (eqb-true (above a) 0 e) (eqb-true (above b) 0 f)))
+
+-- the bytes of a text, as two words: those before the last four behind zeros
+pub two-words : (s : List ℕ) (k a b : ℕ) → 4 ≤ length s → length s ≤ 8 → k + 4 ≡ length s → bytes a ≡ map again (replicate (4 - k) 48 ++ take k s) → bytes b ≡ map again (take 4 (drop k s)) → digitsOf 8 (bytes a ++ bytes b) ≡ digitsOf 18 s
+two-words s k a b l m n e f =
+    let t : take 4 (drop k s) ≡ drop k s = take-all 4 (drop k s) (omega (arith, length-drop k s)) in
+    fit (bytes a ++ bytes b) 8 (omega arith) (omega arith) (omega arith)
+    ∙ ap (λ (x : List ℕ). rest 0 (x ++ bytes b)) e
+    ∙ ap (λ (x : List ℕ). rest 0 (map again (replicate (4 - k) 48 ++ take k s) ++ x)) (f ∙ ap (map again) t)
+    ∙ ap (rest 0) (sym (map-append again (replicate (4 - k) 48 ++ take k s) (drop k s)))
+    ∙ same 0 ((replicate (4 - k) 48 ++ take k s) ++ drop k s)
+    ∙ ap (rest 0) (append-assoc (replicate (4 - k) 48) (take k s) (drop k s))
+    ∙ zeros (4 - k) (take k s ++ drop k s)
+    ∙ ap (rest 0) (take-append-drop k s)
+    ∙ sym (begun s l (omega arith))
+
 module _ (s : List ℕ) (k : ℕ) (j : k ≤ 4) (l : 4 ≤ length s) where
+  pub few-long : length (replicate (4 - k) 48 ++ take k s) ≡ 4
+  few-long = length-append (replicate (4 - k) 48) (take k s) ∙ rw (length-replicate {A = ℕ} (4 - k) 48, length-take-le k s (omega arith)) (omega arith)
+
   few : digitsOf 4 (replicate (4 - k) 48 ++ take k s) ≡ rest 0 (take k s)
   few =
-      let n : length (replicate (4 - k) 48 ++ take k s) ≡ 4 = length-append (replicate (4 - k) 48) (take k s) ∙ rw (length-replicate {A = ℕ} (4 - k) 48, length-take-le k s (omega arith)) (omega arith) in
+      let n = few-long in
       fit (replicate (4 - k) 48 ++ take k s) 4 (omega (arith, n)) (omega (arith, n)) (omega arith) ∙ zeros (4 - k) (take k s)
 
   pub after-first : {v : ℕ} → digitsOf 4 (replicate (4 - k) 48 ++ take k s) ≡ Is v → (rest 0 s ≡ rest v (drop k s)) × (v < 10 ^ k)

@@ -1,7 +1,7 @@
 -- What is left of the digits, a byte at a time. Assumes nothing.
 use mathlib.Core.Path.{_≡_, refl, sym, ap, _∙_}
 use mathlib.Core.List.{List}
-use mathlib.Core.Bool.{Bool, true, false, cond, _&&_}
+use mathlib.Core.Bool.{Bool, true, false, cond, _&&_, and-false}
 use Prim.Native.Nat.{ℕ, _+_, _-_, _*_, _≤_, _<_}
 use lib.Bits.{bitXor}
 use native.Mathlib.Omega.{arith}
@@ -31,6 +31,10 @@ module _ (s : List ℕ) (w : ℕ) where
   pub wide : 1 ≤ length s → length s ≤ w → 18 < w → digitsOf w s ≡ No
   unfolding digitsOf
   wide l h k = simp (le-leb 1 (length s) l, le-leb (length s) w h, lt-leb w 18 k)
+
+  pub too-wide : 18 < w → digitsOf w s ≡ No
+  unfolding digitsOf
+  too-wide k = simp (lt-leb w 18 k, and-false)
 
   pub fit : 1 ≤ length s → length s ≤ w → w ≤ 18 → digitsOf w s ≡ rest 0 s
   unfolding digitsOf

@@ -1,5 +1,5 @@
 -- A word of four bytes: what each is worth, whether all are digits, and what they write. Assumes nothing.
-use mathlib.Core.Path.{_≡_, ap, _∙_}
+use mathlib.Core.Path.{_≡_, sym, ap, subst, _∙_}
 use Prim.Native.Nat.{ℕ, _+_, _-_, _*_, _/_, _%_, _^_, _≤_, _<_}
 use native.Mathlib.Omega.{arith}
 use lib.Bits.{bitAnd, bitOr, bitXor, xor-block, and-block, xor-zero-r, xor-self, xor-add-and, xor-lt, and-le-l, and-le-r, and-high, and-mask, and-zero-r, or-add-and, or-zero-l}
@@ -143,3 +143,54 @@ module _ (a b c d : ℕ) (la : a < 256) (lb : b < 256) (lc : c < 256) (ld : d < 
   bytes-of =
       let e = turned a b c d la lb lc ld in
       (omega (arith, e, la', lb', lc', ld'), omega (arith, e, la'), omega (arith, e, la', lb'), omega (arith, e, la', lb', lc'), omega (arith, e, la', lb', lc'))
+
+-- ---- two words at once, the second in the upper half
+abbrev pub above-both : ℕ → ℕ
+above-both w = bitOr (bitAnd w 0xf0f0_f0f0_f0f0_f0f0) (bitAnd ((w + 0x0606_0606_0606_0606) % 2 ^ 64) 0xf0f0_f0f0_f0f0_f0f0)
+
+-- the upper bits of two words
+uppers : (a b : ℕ) → a < 2 ^ 32 → bitAnd (a + b * 2 ^ 32) 0xf0f0_f0f0_f0f0_f0f0 ≡ bitAnd b 0xf0f0_f0f0 * 2 ^ 32 + bitAnd a 0xf0f0_f0f0
+uppers a b l =
+    let e : a + b * 2 ^ 32 ≡ b * 2 ^ 32 + a = omega arith in
+    ap (λ (u : ℕ). bitAnd u 0xf0f0_f0f0_f0f0_f0f0) e ∙ and-block 32 b 0xf0f0_f0f0 a 0xf0f0_f0f0 l (omega arith)
+
+-- a word without upper bits has room for a six in each byte
+low-bytes : (a b c d : ℕ) → a < 256 → b < 256 → c < 256 → d < 256 → bitAnd (join a b c d) 0xf0f0_f0f0 ≡ 0 → join a b c d ≤ 0x0f0f_0f0f
+low-bytes a b c d la lb lc ld h =
+    let x = highs a b c d la lb lc ld in
+    let p : a < 16 = omega (arith, x, h) in
+    let q : b < 16 = omega (arith, x, h) in
+    let r : c < 16 = omega (arith, x, h) in
+    let s : d < 16 = omega (arith, x, h) in
+    omega (arith, p, q, r, s)
+
+low : (a : ℕ) → a < 2 ^ 32 → bitAnd a 0xf0f0_f0f0 ≡ 0 → a ≤ 0x0f0f_0f0f
+low a l h =
+    let e : a ≡ join (a % 256) (a / 256 % 256) (a / 65536 % 256) (a / 16777216) = omega arith in
+    subst (λ (u : ℕ). u ≤ 0x0f0f_0f0f) (sym e) (low-bytes (a % 256) (a / 256 % 256) (a / 65536 % 256) (a / 16777216) (omega arith) (omega arith) (omega arith) (omega arith) (sym (ap (λ (u : ℕ). bitAnd u 0xf0f0_f0f0) e) ∙ h))
+
+module _ (a b : ℕ) (la : a < 2 ^ 32) (lb : b < 2 ^ 32) where
+  sixes : a ≤ 0x0f0f_0f0f → b ≤ 0x0f0f_0f0f → bitAnd ((a + b * 2 ^ 32 + 0x0606_0606_0606_0606) % 2 ^ 64) 0xf0f0_f0f0_f0f0_f0f0 ≡ bitAnd (b + 0x0606_0606) 0xf0f0_f0f0 * 2 ^ 32 + bitAnd (a + 0x0606_0606) 0xf0f0_f0f0
+  sixes p q =
+      let e : (a + b * 2 ^ 32 + 0x0606_0606_0606_0606) % 2 ^ 64 ≡ (a + 0x0606_0606) + (b + 0x0606_0606) * 2 ^ 32 = omega arith in
+      ap (λ (u : ℕ). bitAnd u 0xf0f0_f0f0_f0f0_f0f0) e ∙ uppers (a + 0x0606_0606) (b + 0x0606_0606) (omega arith)
+
+  -- both words pass where each does
+  pub none-both : above a ≡ 0 → above b ≡ 0 → above-both (a + b * 2 ^ 32) ≡ 0
+  none-both f g =
+      let x = or-none (bitAnd a 0xf0f0_f0f0) (bitAnd (a + 0x0606_0606) 0xf0f0_f0f0) f in
+      let y = or-none (bitAnd b 0xf0f0_f0f0) (bitAnd (b + 0x0606_0606) 0xf0f0_f0f0) g in
+      let p : bitAnd (a + b * 2 ^ 32) 0xf0f0_f0f0_f0f0_f0f0 ≡ 0 = omega (arith, uppers a b la, x .0, y .0) in
+      let q : bitAnd ((a + b * 2 ^ 32 + 0x0606_0606_0606_0606) % 2 ^ 64) 0xf0f0_f0f0_f0f0_f0f0 ≡ 0 = omega (arith, sixes (low a la (x .0)) (low b lb (y .0)), x .1, y .1) in
+      ap (λ (u : ℕ). bitOr u (bitAnd ((a + b * 2 ^ 32 + 0x0606_0606_0606_0606) % 2 ^ 64) 0xf0f0_f0f0_f0f0_f0f0)) p ∙ or-zero-l _ ∙ q
+
+  -- and only there
+  pub each-none : above-both (a + b * 2 ^ 32) ≡ 0 → (above a ≡ 0) × (above b ≡ 0)
+  each-none h =
+      let z = or-none (bitAnd (a + b * 2 ^ 32) 0xf0f0_f0f0_f0f0_f0f0) (bitAnd ((a + b * 2 ^ 32 + 0x0606_0606_0606_0606) % 2 ^ 64) 0xf0f0_f0f0_f0f0_f0f0) h in
+      let p : bitAnd a 0xf0f0_f0f0 ≡ 0 = omega (arith, uppers a b la, z .0) in
+      let q : bitAnd b 0xf0f0_f0f0 ≡ 0 = omega (arith, uppers a b la, z .0) in
+      let k = sixes (low a la p) (low b lb q) in
+      let r : bitAnd (a + 0x0606_0606) 0xf0f0_f0f0 ≡ 0 = omega (arith, k, z .1) in
+      let t : bitAnd (b + 0x0606_0606) 0xf0f0_f0f0 ≡ 0 = omega (arith, k, z .1) in
+      (ap (λ (u : ℕ). bitOr u (bitAnd (a + 0x0606_0606) 0xf0f0_f0f0)) p ∙ or-zero-l _ ∙ r, ap (λ (u : ℕ). bitOr u (bitAnd (b + 0x0606_0606) 0xf0f0_f0f0)) q ∙ or-zero-l _ ∙ t)

@@ -6,9 +6,9 @@
 // docs/PROVING.md says what the compiler makes of it.
 ghost use mathlib.Core.Path.{_≡_};
 ghost use mathlib.Core.List.{[], _∷_, _++_};
-ghost use Prim.Native.Nat.{_+_, _-_, _/_, _%_, _^_, _≤_, _<_};
+ghost use Prim.Native.Nat.{_+_, _-_, _*_, _/_, _%_, _^_, _≤_, _<_};
 ghost use mathlib.Core.Bool.{_&&_, cond};
-ghost use lib.Bits.{bitXor};
+ghost use lib.Bits.{bitAnd, bitXor};
 ghost use lib.Dec.{leb, eqb};
 ghost use lib.ListN.{length, getD, take, drop, replicate};
 ghost use Rattle.digits.specs.Digits.{digitsOf, wholeOf, rangedOf};
@@ -46,6 +46,12 @@ const UPPER: u64 = 240 * EACH;
 // Six in each byte: of 0 to 15 those up to 9 have no upper bit with six added, 10 and more have.
 const SIXES: u64 = 6 * EACH;
 
+// The same of two words, the second in the upper half of a number.
+const UPPER_BOTH: u64 = UPPER + UPPER * WORDS;
+
+// Six in each byte of both.
+const SIXES_BOTH: u64 = SIXES + SIXES * WORDS;
+
 // A word of digits times this has, from its second byte on, ten times each digit and the next one.
 const TENS: u64 = 10 * 256 + 1;
 
@@ -76,6 +82,15 @@ fn word(a: u8, b: u8, c: u8, d: u8) -> u64
     (a as u64 + b as u64 * 256 + c as u64 * 65536 + d as u64 * 16777216) ^ ZEROS
 }
 
+// What the four digits of a word write.
+fn value(w: u64) -> u64
+    requires { ⌜ w < 2 ^ 32 ⌝ }
+    ensures { λ r. ⌜ r ≡ bitAnd (w * 2561 / 256) 0x00ff_00ff * 6553601 / 65536 % 65536 ⌝ }
+{
+    let pairs = (w * TENS / 256) & PAIRS;
+    pairs * HUNDREDS / 65536 % 65536
+}
+
 // What the four bytes of a word write, if each is worth a digit.
 fn written(w: u64) -> Number
     requires { ⌜ w < 2 ^ 32 ⌝ }
@@ -84,8 +99,20 @@ fn written(w: u64) -> Number
     if (w & UPPER) | ((w + SIXES) & UPPER) != 0 {
         return Number::No;
     }
-    let pairs = (w * TENS / 256) & PAIRS;
-    Number::Is(pairs * HUNDREDS / 65536 % 65536)
+    Number::Is(value(w))
+}
+
+// What the eight bytes of two words write. Both words are tested at once.
+fn both(a: u64, b: u64) -> Number
+    requires { ⌜ (a < 2 ^ 32) × (b < 2 ^ 32) ⌝ }
+    ensures { λ r. ⌜ r ≡ digitsOf 8 ((a % 256 + 48) ∷ (a / 256 % 256 + 48) ∷ (a / 65536 % 256 + 48) ∷ (a / 16777216 + 48) ∷ (b % 256 + 48) ∷ (b / 256 % 256 + 48) ∷ (b / 65536 % 256 + 48) ∷ (b / 16777216 + 48) ∷ []) ⌝ }
+{
+    let w = a + b * WORDS;
+    let more = std::num::wrapping_add_u64(w, SIXES_BOTH);
+    if (w & UPPER_BOTH) | (more & UPPER_BOTH) != 0 {
+        return Number::No;
+    }
+    Number::Is(value(a) * 10000 + value(b))
 }
 
 // The four digits from a place on.
@@ -132,19 +159,15 @@ fn short(text: &[u8]) -> Number
     Number::Is((a * 10 + b) * 10 + c)
 }
 
-// 4 to 8 digits: the last four, and those before them.
+// 4 to 8 digits: the last four, and those before them behind zeros.
 fn middle(text: &[u8]) -> Number
     requires { ⌜ (4 ≤ length (now text)) × (length (now text) ≤ 8) ⌝ }
     ensures { λ r. ⌜ r ≡ digitsOf 18 (now (text .entry)) ⌝ }
 {
     let k = text.len() - 4;
-    let Number::Is(a) = first(text, k) else {
-        return Number::No;
-    };
-    let Number::Is(b) = next(text, k) else {
-        return Number::No;
-    };
-    Number::Is(a * 10000 + b)
+    let a = word(text[0], text[1], text[2], text[3]);
+    let b = word(text[k], text[k + 1], text[k + 2], text[k + 3]);
+    both((a << (32 - 8 * k)) % WORDS, b)
 }
 
 // The same, where there may be more: the first one to four, then four a turn.
@@ -185,9 +208,6 @@ fn read(text: &[u8], width: usize) -> u64
     ensures { λ r. ⌜ digitsOf width (now (text .entry)) ≡ cond (eqb r 18446744073709551615) Number.No (Number.Is r) ⌝ }
 {
     let n = text.len();
-    if n == 0 {
-        return NONE;
-    }
     if width < n {
         return NONE;
     }
@@ -195,6 +215,9 @@ fn read(text: &[u8], width: usize) -> u64
         return NONE;
     }
     if n <= FEW {
+        if n == 0 {
+            return NONE;
+        }
         let Number::Is(v) = short(text) else {
             return NONE;
         };

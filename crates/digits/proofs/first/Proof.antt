@@ -1,7 +1,11 @@
 -- `digits::first` meets its contract. Assumes nothing.
 use mathlib.Core.Path.{_∙_}
 use borrow.Author.Needs.{needs}
-use Rattle.digits.proofs.Fours.{first-of}
+use Prim.Native.Nat.{_-_}
+use mathlib.Core.List.{_++_}
+use lib.ListN.{take, replicate}
+use Rattle.digits.proofs.Fours.{same-digits, first-known}
+use Rattle.digits.proofs.Parts.{few-long}
 use Rattle.digits.proofs.first.Statement.{statement}
 use Rattle.digits.proofs.first.Tie as tie
 
@@ -35,8 +39,9 @@ written-requires c κs = search needs
 returns : tie.Need-returns
 returns c =
     let p = c .before .before .before .before .before .before .before in
+    let s = p .args .text .now in
     let e = c .before .word .ensures in
-    c .written .ensures ∙ first-of _ (e .0) (p .args .text .now) (p .pre .1) (e .1) (e .2) (e .3) (e .4) (p .args .count) (p .pre .0)
+    c .written .ensures ∙ same-digits _ (replicate (4 - p .args .count) 48 ++ take (p .args .count) s) (first-known _ (e .0) s (p .pre .1) (e .1) (e .2) (e .3) (e .4) (p .args .count) (p .pre .0)) (few-long s (p .args .count) (p .pre .0) (p .pre .1))
 
 pub first-spec : {M : Type 1} → statement M
 first-spec =

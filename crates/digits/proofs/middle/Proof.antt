@@ -1,11 +1,10 @@
 -- `digits::middle` meets its contract. Assumes nothing.
-use Prim.Native.Nat.{_+_, _-_}
-use mathlib.Core.Path.{sym, _∙_}
+use Prim.Native.Nat.{_+_, _-_, _≤_}
+use mathlib.Core.Path.{_≡_, _∙_}
 use native.Mathlib.Omega.{arith}
 use lib.ListN.{length}
-use Rattle.digits.proofs.Width.{below}
-use Rattle.digits.proofs.Steps.{done}
-use Rattle.digits.proofs.Parts.{begun, after-first, none-first, after-next, none-next}
+use Rattle.digits.proofs.Fours.{four-known, first-known}
+use Rattle.digits.proofs.Parts.{two-words}
 use borrow.Author.Needs.{needs}
 use Rattle.digits.proofs.middle.Statement.{statement}
 use Rattle.digits.proofs.middle.Tie as tie
@@ -13,69 +12,88 @@ use Rattle.digits.proofs.middle.Tie as tie
 sub-k : tie.Need-sub-k
 sub-k c = search needs
 
-first-requires : tie.Need-first-requires
-first-requires c κs = search needs
+shared-slice-read-word : tie.Need-shared-slice-read-word
+shared-slice-read-word c = search needs
 
-enum-known-a : tie.Need-enum-known-a
-enum-known-a c = search needs
+shared-slice-read-word-2 : tie.Need-shared-slice-read-word-2
+shared-slice-read-word-2 c = search needs
 
-enum-told : tie.Need-enum-told
-enum-told c = search needs
+shared-slice-read-word-3 : tie.Need-shared-slice-read-word-3
+shared-slice-read-word-3 c = search needs
+
+shared-slice-read-word-4 : tie.Need-shared-slice-read-word-4
+shared-slice-read-word-4 c = search needs
+
+word-requires : tie.Need-word-requires
+word-requires c κs = search needs
+
+shared-slice-read-word-5 : tie.Need-shared-slice-read-word-5
+shared-slice-read-word-5 c = search needs
+
+add-word : tie.Need-add-word
+add-word c = search needs
+
+shared-slice-read-word-6 : tie.Need-shared-slice-read-word-6
+shared-slice-read-word-6 c = search needs
+
+add-word-2 : tie.Need-add-word-2
+add-word-2 c = search needs
+
+shared-slice-read-word-7 : tie.Need-shared-slice-read-word-7
+shared-slice-read-word-7 c = search needs
+
+add-word-3 : tie.Need-add-word-3
+add-word-3 c = search needs
+
+shared-slice-read-word-8 : tie.Need-shared-slice-read-word-8
+shared-slice-read-word-8 c = search needs
+
+word-requires-2 : tie.Need-word-requires-2
+word-requires-2 c κs = search needs
+
+mul-both : tie.Need-mul-both
+mul-both c = search needs
+
+sub-both : tie.Need-sub-both
+sub-both c = search needs
+
+shl-both : tie.Need-shl-both
+shl-both c = search needs
+
+both-requires : tie.Need-both-requires
+both-requires c κs = search needs
 
 returns : tie.Need-returns
 returns c =
-    let p = c .before .before .before .before in
+    let p = c .before .before .before .before .before .before .before .before .before .before .before .before in
     let s = p .args .text .now in
-    sym (begun s (p .pre .0) (omega (arith, p .pre .1)) ∙ none-first s (length s - 4) (omega (arith, p .pre .1)) (p .pre .0) (sym (c .before .before .first .ensures) ∙ c .enum-told .given .1))
-
-next-requires : tie.Need-next-requires
-next-requires c κs = search needs
-
-enum-known-b : tie.Need-enum-known-b
-enum-known-b c = search needs
-
-enum-told-2 : tie.Need-enum-told-2
-enum-told-2 c = search needs
-
-returns-2 : tie.Need-returns-2
-returns-2 c =
-    let p = c .before .before .before .before .before .before .before .before in
-    let s = p .args .text .now in
-    let a = after-first s (length s - 4) (omega (arith, p .pre .1)) (p .pre .0) (sym (c .before .before .before .before .before .before .first .ensures) ∙ c .before .before .before .before .a .given .1) in
-    sym (begun s (p .pre .0) (omega (arith, p .pre .1)) ∙ a .0 ∙ none-next s (length s - 4) _ (omega (arith, p .pre .0)) (sym (c .before .before .next .ensures) ∙ c .enum-told2 .given .1))
-
-mul-t8 : tie.Need-mul-t8
-mul-t8 c =
-    let a = below 4 _ (sym (c .before .before .before .before .before .before .before .first .ensures) ∙ c .before .before .before .before .before .a .given .1) in
-    omega (arith, a)
-
-add-t9 : tie.Need-add-t9
-add-t9 c =
-    let a = below 4 _ (sym (c .before .before .before .before .before .before .before .first .ensures) ∙ c .before .before .before .before .before .a .given .1) in
-    let b = below 4 _ (sym (c .before .before .before .next .ensures) ∙ c .before .b .given .1) in
-    omega (arith, a, b)
-
-returns-3 : tie.Need-returns-3
-returns-3 c =
-    let p = c .before .before .before .before .before .before .before .before .before in
-    let s = p .args .text .now in
-    let a = after-first s (length s - 4) (omega (arith, p .pre .1)) (p .pre .0) (sym (c .before .before .before .before .before .before .before .first .ensures) ∙ c .before .before .before .before .before .a .given .1) in
-    let b = after-next s (length s - 4) _ (omega (arith, p .pre .0)) (sym (c .before .before .before .next .ensures) ∙ c .before .b .given .1) in
-    sym (begun s (p .pre .0) (omega (arith, p .pre .1)) ∙ a .0 ∙ b ∙ done s (length s - 4 + 4) _ (omega (arith, p .pre .0)))
+    let e = c .before .before .before .before .before .before .word .ensures in
+    let f = c .before .word2 .ensures in
+    let k = length s - 4 in
+    let l : k ≤ 4 = omega (arith, p .pre .1) in
+    let m : k + 4 ≡ length s = omega (arith, p .pre .0) in
+    c .both .ensures ∙ two-words s k _ _ (p .pre .0) (p .pre .1) m (first-known _ (e .0) s (p .pre .0) (e .1) (e .2) (e .3) (e .4) k l) (four-known _ s k (omega (arith, m)) (f .1) (f .2) (f .3) (f .4))
 
 pub middle-spec : {M : Type 1} → statement M
 middle-spec =
     tie.close
     (tie.spec
     sub-k
-    first-requires
-    enum-known-a
-    enum-told
-    returns
-    next-requires
-    enum-known-b
-    enum-told-2
-    returns-2
-    mul-t8
-    add-t9
-    returns-3)
+    shared-slice-read-word
+    shared-slice-read-word-2
+    shared-slice-read-word-3
+    shared-slice-read-word-4
+    word-requires
+    shared-slice-read-word-5
+    add-word
+    shared-slice-read-word-6
+    add-word-2
+    shared-slice-read-word-7
+    add-word-3
+    shared-slice-read-word-8
+    word-requires-2
+    mul-both
+    sub-both
+    shl-both
+    both-requires
+    returns)

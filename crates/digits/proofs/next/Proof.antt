@@ -1,8 +1,10 @@
 -- `digits::next` meets its contract. Assumes nothing.
-use mathlib.Core.Path.{sym, ap, _∙_}
+use mathlib.Core.Path.{_∙_}
 use borrow.Author.Needs.{needs}
-use Rattle.digits.specs.Digits.{digitsOf}
-use Rattle.digits.proofs.Fours.{same-four, four-at}
+use native.Mathlib.Omega.{arith}
+use lib.ListN.{take, drop, length-drop}
+use lib.Seq.{length-take-le}
+use Rattle.digits.proofs.Fours.{same-digits, four-known}
 use Rattle.digits.proofs.next.Statement.{statement}
 use Rattle.digits.proofs.next.Tie as tie
 
@@ -36,8 +38,9 @@ written-requires c κs = search needs
 returns : tie.Need-returns
 returns c =
     let p = c .before .before .before .before .before .before .before in
+    let s = p .args .text .now in
     let e = c .before .word .ensures in
-    c .written .ensures ∙ same-four _ _ _ _ _ (e .1) (e .2) (e .3) (e .4) ∙ ap (digitsOf 4) (sym (four-at (p .args .text .now) (p .args .at) (p .pre)))
+    c .written .ensures ∙ same-digits _ (take 4 (drop (p .args .at) s)) (four-known _ s (p .args .at) (p .pre) (e .1) (e .2) (e .3) (e .4)) (length-take-le 4 (drop (p .args .at) s) (omega (arith, p .pre, length-drop (p .args .at) s)))
 
 pub next-spec : {M : Type 1} → statement M
 next-spec =

@@ -2,7 +2,7 @@
 use mathlib.Core.Path.{sym, _∙_}
 use native.Mathlib.Omega.{arith}
 use Rattle.digits.proofs.Width.{below}
-use Rattle.digits.proofs.Steps.{none, long, wide, widest}
+use Rattle.digits.proofs.Steps.{none, long, too-wide, widest}
 use Rattle.digits.proofs.Plain.{as-plain}
 use borrow.Author.Needs.{needs}
 use Rattle.digits.proofs.read.Statement.{statement}
@@ -10,15 +10,15 @@ use Rattle.digits.proofs.read.Tie as tie
 
 returns : tie.Need-returns
 returns c =
-    none _ _ (c .if1 .taken)
+    long _ _ (omega (arith, c .if1 .taken)) (c .if1 .taken)
 
 returns-2 : tie.Need-returns-2
 returns-2 c =
-    long _ _ (omega arith) (c .if2 .taken)
+    too-wide _ _ (c .if2 .taken)
 
 returns-3 : tie.Need-returns-3
 returns-3 c =
-    wide _ _ (omega arith) (c .before .if2 .left) (c .if3 .taken)
+    none _ _ (c .if4 .taken)
 
 short-requires : tie.Need-short-requires
 short-requires c κs = search needs
@@ -31,12 +31,12 @@ enum-told c = search needs
 
 returns-4 : tie.Need-returns-4
 returns-4 c =
-    sym (widest _ _ (omega arith) (c .before .before .before .before .before .if2 .left) (c .before .before .before .before .if3 .left)) ∙ sym (c .before .before .short .ensures) ∙ c .enum-told .given .1
+    sym (widest _ _ (omega arith) (c .before .before .before .before .before .before .if1 .left) (c .before .before .before .before .before .if2 .left)) ∙ sym (c .before .before .short .ensures) ∙ c .enum-told .given .1
 
 returns-5 : tie.Need-returns-5
 returns-5 c =
     let e = sym (c .before .before .before .short .ensures) ∙ c .before .v .given .1 in
-    as-plain _ _ (sym (widest _ _ (omega arith) (c .before .before .before .before .before .before .if2 .left) (c .before .before .before .before .before .if3 .left)) ∙ e) (below 18 _ e)
+    as-plain _ _ (sym (widest _ _ (omega arith) (c .before .before .before .before .before .before .before .if1 .left) (c .before .before .before .before .before .before .if2 .left)) ∙ e) (below 18 _ e)
 
 many-requires : tie.Need-many-requires
 many-requires c κs = search needs
@@ -49,12 +49,12 @@ enum-told-2 c = search needs
 
 returns-6 : tie.Need-returns-6
 returns-6 c =
-    sym (widest _ _ (omega arith) (c .before .before .before .before .before .if2 .left) (c .before .before .before .before .if3 .left)) ∙ sym (c .before .before .many .ensures) ∙ c .enum-told2 .given .1
+    sym (widest _ _ (omega arith) (c .before .before .before .before .before .if1 .left) (c .before .before .before .before .if2 .left)) ∙ sym (c .before .before .many .ensures) ∙ c .enum-told2 .given .1
 
 returns-7 : tie.Need-returns-7
 returns-7 c =
     let e = sym (c .before .before .before .many .ensures) ∙ c .before .v2 .given .1 in
-    as-plain _ _ (sym (widest _ _ (omega arith) (c .before .before .before .before .before .before .if2 .left) (c .before .before .before .before .before .if3 .left)) ∙ e) (below 18 _ e)
+    as-plain _ _ (sym (widest _ _ (omega arith) (c .before .before .before .before .before .before .if1 .left) (c .before .before .before .before .before .if2 .left)) ∙ e) (below 18 _ e)
 
 pub read-spec : {M : Type 1} → statement M
 read-spec =
