@@ -46,10 +46,10 @@ const UPPER: u64 = 240 * EACH;
 // Six in each byte: of 0 to 15 those up to 9 have no upper bit with six added, 10 and more have.
 const SIXES: u64 = 6 * EACH;
 
-// The same of two words, the second in the upper half of a number.
+// The upper four bits of each byte of two words, the second in the upper half of a number.
 const UPPER_BOTH: u64 = UPPER + UPPER * WORDS;
 
-// Six in each byte of both.
+// Six in each byte of two words.
 const SIXES_BOTH: u64 = SIXES + SIXES * WORDS;
 
 // A word of digits times this has, from its second byte on, ten times each digit and the next one.
