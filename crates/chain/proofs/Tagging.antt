@@ -8,7 +8,7 @@ use native.Mathlib.Omega.{arith}
 use borrow.Author.Tests.{leb-true, leb-false}
 use lib.Bits.{bitXor}
 use lib.Dec.{leb, eqb}
-use lib.ListN.{length, getD, take, drop, length-take, length-drop}
+use lib.ListN.{length, getD, drop, length-take, length-drop}
 use lib.Seq.{getD-take, getD-drop}
 use Rattle.digits.specs.Digits.{digitsOf, wholeOf, rangedOf, within}
 use Rattle.digits.specs.declared.Number.the-variants.{Is, No}
@@ -168,6 +168,9 @@ module _ (s : List ℕ) (at : ℕ) where
             getD-take (firstOf 61 s at - at) (drop at s) (i - at) 0 (omega (arith, later, w .after)) ∙ getD-drop at s (i - at) 0
             ∙ ap (λ (k : ℕ). getD s k 0) k
 
+        too-many : 5 ≤ i - at → fieldAt s at ≡ Step.No
+        too-many h = no-tag s at (firstOf 61 s at) refl (unread bytes (long bytes 5 (omega (arith, inside)) (omega (arith, inside))))
+
         -- x is what the byte is worth
         module _ (x : ℕ) (e : x ≡ bitXor (getD s i 0) 48) where
           worth : x ≡ bitXor (getD bytes (i - at) 0) 48
@@ -175,9 +178,6 @@ module _ (s : List ℕ) (at : ℕ) where
 
           pub no-digit : 9 < x → fieldAt s at ≡ Step.No
           no-digit h = no-tag s at (firstOf 61 s at) refl (unread bytes (stopped bytes (w .left ∙ other bytes (i - at) v x worth inside h)))
-
-          too-many : 5 ≤ i - at → fieldAt s at ≡ Step.No
-          too-many h = no-tag s at (firstOf 61 s at) refl (unread bytes (long bytes 5 (omega (arith, inside)) (omega (arith, inside))))
 
           one-more : x ≤ 9 → i - at < 5 → Reads (i + 1) (v * 10 + x)
           one-more d h =
@@ -196,7 +196,7 @@ module _ (s : List ℕ) (at : ℕ) where
         unlike z = let b = is-digit (getD s i 0) (omega arith) in absurd (omega arith)
 
         pub too-long : 5 ≤ i - at → fieldAt s at ≡ Step.No
-        too-long h = too-many unlike x e h
+        too-long h = too-many unlike h
 
         pub goes-on : i - at < 5 → Reads (i + 1) (v * 10 + x)
         goes-on h = one-more unlike x e d h

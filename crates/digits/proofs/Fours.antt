@@ -13,7 +13,7 @@ use lib.Seq.{getD-drop}
 use Rattle.digits.specs.Digits.{digitsOf, isDigit, allDigits, value}
 use Rattle.digits.specs.declared.Number.the-variants.{Is, No}
 use Rattle.digits.proofs.Steps.{rest, fit, one, other}
-use Rattle.digits.proofs.Words.{Digits, join, above, none-above, all-digits, whole, is-digit, is-worth}
+use Rattle.digits.proofs.Words.{Digits, join, above, none-above, all-digits, number, number-is, is-digit, is-worth}
 
 -- ---- bytes that are no digits
 pub stop : (v : ℕ) (bs : List ℕ) → allDigits bs ≡ false → rest v bs ≡ No
@@ -52,10 +52,10 @@ module _ (w : ℕ) (h : w < 2 ^ 32) where
   joined : w ≡ join (w % 256) (w / 256 % 256) (w / 65536 % 256) (w / 16777216)
   joined = omega arith
 
-  pub writes : above w ≡ 0 → digitsOf 4 (bytes w) ≡ Is (bitAnd (w * 2561 / 256) 0x00ff_00ff * 6553601 / 65536 % 65536)
+  pub writes : above w ≡ 0 → digitsOf 4 (bytes w) ≡ Is (number w)
   writes e =
       let z = all-digits (w % 256) (w / 256 % 256) (w / 65536 % 256) (w / 16777216) (omega arith) (omega arith) (omega arith) (omega arith) (ap above (sym joined) ∙ e) in
-      fit (bytes w) 4 (omega arith) (omega arith) (omega arith) ∙ four-is (w % 256) (w / 256 % 256) (w / 65536 % 256) (w / 16777216) z ∙ ap Is (sym (ap (λ (u : ℕ). bitAnd (u * 2561 / 256) 0x00ff_00ff * 6553601 / 65536 % 65536) joined ∙ whole _ _ _ _ z))
+      fit (bytes w) 4 (omega arith) (omega arith) (omega arith) ∙ four-is (w % 256) (w / 256 % 256) (w / 65536 % 256) (w / 16777216) z ∙ ap Is (sym (ap number joined ∙ number-is _ _ _ _ z))
 
   pub writes-none : (above w ≡ 0 → ⊥) → digitsOf 4 (bytes w) ≡ No
   writes-none n = fit (bytes w) 4 (omega arith) (omega arith) (omega arith) ∙ four-no (w % 256) (w / 256 % 256) (w / 65536 % 256) (w / 16777216) (λ z. n (ap above joined ∙ none-above _ _ _ _ z))
@@ -80,7 +80,7 @@ same v (b ∷ bs) = go (same (v * 10 + bitXor b 48) bs) (leb (bitXor b 48) 9) re
         stop v (map again (b ∷ bs)) (here (bitXor b 48) (map again bs) h) ∙ sym (other (b ∷ bs) 0 v (bitXor b 48) refl (omega arith) h)
 
 -- four bytes that are known by a word of what they are worth
-pub known : (w a b c d : ℕ) → w % 256 ≡ bitXor a 48 → w / 256 % 256 ≡ bitXor b 48 → w / 65536 % 256 ≡ bitXor c 48 → w / 16777216 ≡ bitXor d 48 → bytes w ≡ map again (a ∷ b ∷ c ∷ d ∷ [])
+known : (w a b c d : ℕ) → w % 256 ≡ bitXor a 48 → w / 256 % 256 ≡ bitXor b 48 → w / 65536 % 256 ≡ bitXor c 48 → w / 16777216 ≡ bitXor d 48 → bytes w ≡ map again (a ∷ b ∷ c ∷ d ∷ [])
 known w a b c d e f g h = rw (e, f, g, h)
 
 -- four bytes are read by what they are worth
@@ -101,7 +101,7 @@ four-at s i l = front (drop i s) (omega (arith, length-drop i s)) ∙ rw (getD-d
 pub four-known : (w : ℕ) (s : List ℕ) (i : ℕ) → i + 4 ≤ length s → w % 256 ≡ bitXor (getD s i 0) 48 → w / 256 % 256 ≡ bitXor (getD s (i + 1) 0) 48 → w / 65536 % 256 ≡ bitXor (getD s (i + 2) 0) 48 → w / 16777216 ≡ bitXor (getD s (i + 3) 0) 48 → bytes w ≡ map again (take 4 (drop i s))
 four-known w s i l e f g h = known w (getD s i 0) (getD s (i + 1) 0) (getD s (i + 2) 0) (getD s (i + 3) 0) e f g h ∙ ap (map again) (sym (four-at s i l))
 
--- the first of four bytes, behind zeros: the others go
+-- the first of four bytes, with zeros before them: the others go
 module _ (w : ℕ) (u : w < 2 ^ 32) where
   pub first-known : (s : List ℕ) → 4 ≤ length s → w % 256 ≡ bitXor (getD s 0 0) 48 → w / 256 % 256 ≡ bitXor (getD s 1 0) 48 → w / 65536 % 256 ≡ bitXor (getD s 2 0) 48 → w / 16777216 ≡ bitXor (getD s 3 0) 48 → (k : ℕ) → k ≤ 4 → bytes (w * 2 ^ (32 - 8 * k) % 2 ^ 64 % 2 ^ 32) ≡ map again (replicate (4 - k) 48 ++ take k s)
   first-known [] l e f g h k j = absurd (omega arith)

@@ -13,14 +13,11 @@ use lib.Seq.{drop-drop, length-take-le, take-all}
 use Rattle.digits.specs.Digits.{digitsOf, isDigit, allDigits, value}
 use Rattle.digits.specs.declared.Number.the-variants.{Is, No}
 use Rattle.digits.proofs.Width.{both, cond-is, value-lt}
-use Rattle.digits.proofs.Steps.{rest, fit}
-use Rattle.digits.proofs.Words.{above, above-both, none-both, each-none}
+use Rattle.digits.proofs.Steps.{rest, fit, begun}
+use Rattle.digits.proofs.Words.{above, above-both, number, none-both, each-none}
 use Rattle.digits.proofs.Fours.{stop, later, bytes, writes, writes-none, again, same, four-at}
 
 -- ---- a part of the digits, and what is left
-pub begun : (s : List ℕ) → 4 ≤ length s → length s ≤ 18 → digitsOf 18 s ≡ rest 0 s
-begun s l m = fit s 18 (omega arith) m (omega arith)
-
 split : (v : ℕ) (bs cs : List ℕ) → allDigits bs ≡ true → rest v (bs ++ cs) ≡ rest (value v bs) cs
 split v [] cs h = refl
 split v (b ∷ bs) cs h =
@@ -49,40 +46,41 @@ none-later : (bs cs : List ℕ) → allDigits cs ≡ false → allDigits (bs ++ 
 none-later [] cs h = h
 none-later (b ∷ bs) cs h = later b (bs ++ cs) (none-later bs cs h)
 
-abbrev pub number : ℕ → ℕ
-number w = bitAnd (w * 2561 / 256) 0x00ff_00ff * 6553601 / 65536 % 65536
+all-eight : (a b : ℕ) → digitsOf 8 (bytes a ++ bytes b) ≡ rest 0 (bytes a ++ bytes b)
+all-eight a b = fit (bytes a ++ bytes b) 8 (omega arith) (omega arith) (omega arith)
+
+module _ (w : ℕ) (l : w < 2 ^ 32) where
+  all-four : rest 0 (bytes w) ≡ digitsOf 4 (bytes w)
+  all-four = sym (fit (bytes w) 4 (omega arith) (omega arith) (omega arith))
+
+  is-four : above w ≡ 0 → (allDigits (bytes w) ≡ true) × (value 0 (bytes w) ≡ number w)
+  is-four e = cond-is (allDigits (bytes w)) (value 0 (bytes w)) (number w) (all-four ∙ writes w l e)
+
+  no-four : (above w ≡ 0 → ⊥) → allDigits (bytes w) ≡ false
+  no-four n = is-none (allDigits (bytes w)) (value 0 (bytes w)) (all-four ∙ writes-none w l n)
 
 module _ (a b : ℕ) (la : a < 2 ^ 32) (lb : b < 2 ^ 32) where
-  all-eight : digitsOf 8 (bytes a ++ bytes b) ≡ rest 0 (bytes a ++ bytes b)
-  all-eight = fit (bytes a ++ bytes b) 8 (omega arith) (omega arith) (omega arith)
-
-  is-four : (w : ℕ) → w < 2 ^ 32 → above w ≡ 0 → (allDigits (bytes w) ≡ true) × (value 0 (bytes w) ≡ number w)
-  is-four w l e = cond-is (allDigits (bytes w)) (value 0 (bytes w)) (number w) (sym (fit (bytes w) 4 (omega arith) (omega arith) (omega arith)) ∙ writes w l e)
-
-  no-four : (w : ℕ) → w < 2 ^ 32 → (above w ≡ 0 → ⊥) → allDigits (bytes w) ≡ false
-  no-four w l n = is-none (allDigits (bytes w)) (value 0 (bytes w)) (sym (fit (bytes w) 4 (omega arith) (omega arith) (omega arith)) ∙ writes-none w l n)
-
   pub writes-both : above-both (a + b * 2 ^ 32) ≡ 0 → digitsOf 8 (bytes a ++ bytes b) ≡ Is (number a * 10000 + number b)
   writes-both e =
       let z = each-none a b la lb e in
       let x = is-four a la (z .0) in
       let y = is-four b lb (z .1) in
       let v : value (value 0 (bytes a)) (bytes b) ≡ value 0 (bytes a) * 10000 + value 0 (bytes b) = omega arith in
-      all-eight ∙ split 0 (bytes a) (bytes b) (x .0) ∙ ap (λ (t : Bool). cond t (Is (value (value 0 (bytes a)) (bytes b))) No) (y .0) ∙ ap Is (v ∙ ap (λ (u : ℕ). u * 10000 + value 0 (bytes b)) (x .1) ∙ ap (λ (u : ℕ). number a * 10000 + u) (y .1))
+      all-eight a b ∙ split 0 (bytes a) (bytes b) (x .0) ∙ ap (λ (t : Bool). cond t (Is (value (value 0 (bytes a)) (bytes b))) No) (y .0) ∙ ap Is (v ∙ ap (λ (u : ℕ). u * 10000 + value 0 (bytes b)) (x .1) ∙ ap (λ (u : ℕ). number a * 10000 + u) (y .1))
 
   pub writes-both-none : (above-both (a + b * 2 ^ 32) ≡ 0 → ⊥) → digitsOf 8 (bytes a ++ bytes b) ≡ No
-  writes-both-none n = all-eight ∙ stop 0 (bytes a ++ bytes b) (go (eqb (above a) 0) (eqb (above b) 0) refl refl)
+  writes-both-none n = all-eight a b ∙ stop 0 (bytes a ++ bytes b) (go (eqb (above a) 0) (eqb (above b) 0) refl refl)
     where
       go : (p q : Bool) → eqb (above a) 0 ≡ p → eqb (above b) 0 ≡ q → allDigits (bytes a ++ bytes b) ≡ false
       go false q e f = none-of (bytes a) (bytes b) (no-four a la (eqb-false (above a) 0 e))
       go true false e f = none-later (bytes a) (bytes b) (no-four b lb (eqb-false (above b) 0 f))
       go true true e f = absurd (n (none-both a b la lb (eqb-true (above a) 0 e) (eqb-true (above b) 0 f)))
 
--- the bytes of a text, as two words: those before the last four behind zeros
+-- a text of 4 to 8 bytes as two words: those before the last four, with zeros before them, and the last four
 pub two-words : (s : List ℕ) (k a b : ℕ) → 4 ≤ length s → length s ≤ 8 → k + 4 ≡ length s → bytes a ≡ map again (replicate (4 - k) 48 ++ take k s) → bytes b ≡ map again (take 4 (drop k s)) → digitsOf 8 (bytes a ++ bytes b) ≡ digitsOf 18 s
 two-words s k a b l m n e f =
     let t : take 4 (drop k s) ≡ drop k s = take-all 4 (drop k s) (omega (arith, length-drop k s)) in
-    fit (bytes a ++ bytes b) 8 (omega arith) (omega arith) (omega arith)
+    all-eight a b
     ∙ ap (λ (x : List ℕ). rest 0 (x ++ bytes b)) e
     ∙ ap (λ (x : List ℕ). rest 0 (map again (replicate (4 - k) 48 ++ take k s) ++ x)) (f ∙ ap (map again) t)
     ∙ ap (rest 0) (sym (map-append again (replicate (4 - k) 48 ++ take k s) (drop k s)))
@@ -90,26 +88,26 @@ two-words s k a b l m n e f =
     ∙ ap (rest 0) (append-assoc (replicate (4 - k) 48) (take k s) (drop k s))
     ∙ zeros (4 - k) (take k s ++ drop k s)
     ∙ ap (rest 0) (take-append-drop k s)
-    ∙ sym (begun s l (omega arith))
+    ∙ sym (begun s 18 (omega arith) (omega arith))
 
 module _ (s : List ℕ) (k : ℕ) (j : k ≤ 4) (l : 4 ≤ length s) where
   pub few-long : length (replicate (4 - k) 48 ++ take k s) ≡ 4
   few-long = length-append (replicate (4 - k) 48) (take k s) ∙ rw (length-replicate {A = ℕ} (4 - k) 48, length-take-le k s (omega arith)) (omega arith)
 
-  few : digitsOf 4 (replicate (4 - k) 48 ++ take k s) ≡ rest 0 (take k s)
-  few =
+  first-rest : digitsOf 4 (replicate (4 - k) 48 ++ take k s) ≡ rest 0 (take k s)
+  first-rest =
       let n = few-long in
       fit (replicate (4 - k) 48 ++ take k s) 4 (omega (arith, n)) (omega (arith, n)) (omega arith) ∙ zeros (4 - k) (take k s)
 
   pub after-first : {v : ℕ} → digitsOf 4 (replicate (4 - k) 48 ++ take k s) ≡ Is v → (rest 0 s ≡ rest v (drop k s)) × (v < 10 ^ k)
   after-first {v} e =
-      let d = cond-is (allDigits (take k s)) (value 0 (take k s)) v (sym few ∙ e) in
+      let d = cond-is (allDigits (take k s)) (value 0 (take k s)) v (sym first-rest ∙ e) in
       let b : value 0 (take k s) < 10 ^ (0 + length (take k s)) = value-lt (take k s) 0 0 (d .0) (omega arith) in
       (ap (rest 0) (sym (take-append-drop k s)) ∙ split 0 (take k s) (drop k s) (d .0) ∙ ap (λ (x : ℕ). rest x (drop k s)) (d .1), rw (← d .1) (rw (zero-add, length-take-le k s (omega arith)) at b))
 
   pub none-first : digitsOf 4 (replicate (4 - k) 48 ++ take k s) ≡ No → rest 0 s ≡ No
   none-first e =
-      let d = is-none (allDigits (take k s)) (value 0 (take k s)) (sym few ∙ e) in
+      let d = is-none (allDigits (take k s)) (value 0 (take k s)) (sym first-rest ∙ e) in
       ap (rest 0) (sym (take-append-drop k s)) ∙ stop 0 (take k s ++ drop k s) (none-of (take k s) (drop k s) d)
 
 module _ (s : List ℕ) (i v : ℕ) (l : i + 4 ≤ length s) where

@@ -7,18 +7,18 @@ use lib.Bits.{bitXor}
 use lib.ListN.{length, getD, drop}
 use Rattle.digits.specs.Digits.{digitsOf}
 use Rattle.digits.specs.declared.Number.the-variants.{Is, No}
-use Rattle.digits.proofs.Steps.{rest, fit, one, other, done}
+use Rattle.digits.proofs.Steps.{rest, begun, one, other, done}
 
 module _ (s : List ℕ) (l : 1 ≤ length s) (m : length s ≤ 3) (a : ℕ) (e : a ≡ bitXor (getD s 0 0) 48) where
-  begun : digitsOf 18 s ≡ rest 0 s
-  begun = fit s 18 l (omega arith) (omega arith)
+  all : digitsOf 18 s ≡ rest 0 s
+  all = begun s 18 l (omega arith)
 
   pub no-first : 9 < a → digitsOf 18 s ≡ No
-  no-first h = begun ∙ other s 0 0 a e l h
+  no-first h = all ∙ other s 0 0 a e l h
 
   module _ (h : a ≤ 9) where
     first : digitsOf 18 s ≡ rest a (drop 1 s)
-    first = begun ∙ one s 0 0 a e l h ∙ ap (λ (v : ℕ). rest v (drop 1 s)) (omega arith)
+    first = all ∙ one s 0 0 a e l h ∙ ap (λ (v : ℕ). rest v (drop 1 s)) (omega arith)
 
     pub is-one : length s ≡ 1 → digitsOf 18 s ≡ Is a
     is-one k = first ∙ done s 1 a (omega arith)

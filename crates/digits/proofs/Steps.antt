@@ -28,10 +28,6 @@ module _ (s : List ℕ) (w : ℕ) where
   unfolding digitsOf
   long l h = simp (le-leb 1 (length s) l, lt-leb (length s) w h)
 
-  pub wide : 1 ≤ length s → length s ≤ w → 18 < w → digitsOf w s ≡ No
-  unfolding digitsOf
-  wide l h k = simp (le-leb 1 (length s) l, le-leb (length s) w h, lt-leb w 18 k)
-
   pub too-wide : 18 < w → digitsOf w s ≡ No
   unfolding digitsOf
   too-wide k = simp (lt-leb w 18 k, and-false)
@@ -39,6 +35,10 @@ module _ (s : List ℕ) (w : ℕ) where
   pub fit : 1 ≤ length s → length s ≤ w → w ≤ 18 → digitsOf w s ≡ rest 0 s
   unfolding digitsOf
   fit l h k = simp (le-leb 1 (length s) l, le-leb (length s) w h, le-leb w 18 k)
+
+  pub begun : 1 ≤ length s → length s ≤ 18 → digitsOf 18 s ≡ rest 0 s
+  unfolding digitsOf
+  begun l h = simp (le-leb 1 (length s) l, le-leb (length s) 18 h)
 
   -- the width settles no more than how many there may be
   pub widest : 1 ≤ length s → length s ≤ w → w ≤ 18 → digitsOf 18 s ≡ digitsOf w s

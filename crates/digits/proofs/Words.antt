@@ -52,7 +52,7 @@ all-of {b} h = let e : bitAnd b 255 ≡ b % 256 = and-mask b 8 in omega (arith, 
 
 module _ (a b c d : ℕ) (la : a < 256) (lb : b < 256) (lc : c < 256) (ld : d < 256) where
   -- each byte of a word is turned into its worth at once
-  pub turned : bitXor (join a b c d) 0x3030_3030 ≡ join (bitXor a 48) (bitXor b 48) (bitXor c 48) (bitXor d 48)
+  turned : bitXor (join a b c d) 0x3030_3030 ≡ join (bitXor a 48) (bitXor b 48) (bitXor c 48) (bitXor d 48)
   turned = bytewise bitXor xor-block a b c d 48 48 48 48 la lb lc (omega arith) (omega arith) (omega arith)
 
   -- the high halves of the bytes of a word
@@ -66,6 +66,10 @@ or-none p q h = (omega (arith, or-add-and p q, and-le-l p q, and-le-r p q), omeg
 -- the high halves of a word's bytes, and those with six added to each
 abbrev pub above : ℕ → ℕ
 above w = bitOr (bitAnd w 0xf0f0_f0f0) (bitAnd (w + 0x0606_0606) 0xf0f0_f0f0)
+
+-- the number of a word of digits
+abbrev pub number : ℕ → ℕ
+number w = bitAnd (w * 2561 / 256) 0x00ff_00ff * 6553601 / 65536 % 65536
 
 -- two pairs, one number
 two : (p r : ℕ) → p < 100 → r < 100 → (p + r * 65536) * 6553601 / 65536 % 65536 ≡ p * 100 + r
@@ -111,15 +115,15 @@ module _ (a b c d : ℕ) where
       }
 
   -- four digits become two pairs, and the pairs one number
-  pub paired : Digits a b c d → bitAnd (join a b c d * 2561 / 256) 0x00ff_00ff ≡ a * 10 + b + (c * 10 + d) * 65536
+  paired : Digits a b c d → bitAnd (join a b c d * 2561 / 256) 0x00ff_00ff ≡ a * 10 + b + (c * 10 + d) * 65536
   paired z =
       let s : join a b c d * 2561 / 256 ≡ join (a * 10 + b) (b * 10 + c) (c * 10 + d) (d * 10) = omega (arith, z .first) in
       let t = ap (λ (u : ℕ). bitAnd u 0x00ff_00ff) s in
       let y = bytewise bitAnd and-block (a * 10 + b) (b * 10 + c) (c * 10 + d) (d * 10) 255 0 255 0 (omega (arith, z .first, z .second)) (omega (arith, z .second, z .third)) (omega (arith, z .third, z .last)) (omega arith) (omega arith) (omega arith) in
       t ∙ y ∙ rw (all-of {b = a * 10 + b} (omega (arith, z .first, z .second)), all-of {b = c * 10 + d} (omega (arith, z .third, z .last)), and-zero-r (b * 10 + c), and-zero-r (d * 10)) (omega arith)
 
-  pub whole : Digits a b c d → bitAnd (join a b c d * 2561 / 256) 0x00ff_00ff * 6553601 / 65536 % 65536 ≡ ((a * 10 + b) * 10 + c) * 10 + d
-  whole z =
+  pub number-is : Digits a b c d → number (join a b c d) ≡ ((a * 10 + b) * 10 + c) * 10 + d
+  number-is z =
       ap (λ (u : ℕ). u * 6553601 / 65536 % 65536) (paired z) ∙ two (a * 10 + b) (c * 10 + d) (omega (arith, z .first, z .second)) (omega (arith, z .third, z .last)) ∙ omega arith
 
 -- the bytes of a word of four, by what they are worth

@@ -1,11 +1,11 @@
 // The reader of digits. Every number in a value is read here; its width is a parameter, and one law over the width bounds
 // every field (document 01, "Fields": whole numbers). A field's tag is read by `chain::tag_at`, which finds the '=' behind
 // it in the same loop; its meaning is `ranged` of the bytes before '=', shown by the laws of this crate. What a digit is worth
-// is known here alone (`worth`).
+// is known here alone.
 // Up to three digits are read one by one, more of them four at a time (document 02, K3). How this is cut into functions was measured:
 // docs/PROVING.md says what the compiler makes of it.
 ghost use mathlib.Core.Path.{_≡_};
-ghost use mathlib.Core.List.{[], _∷_, _++_};
+ghost use mathlib.Core.List.{[], _∷_, _++_, map};
 ghost use Prim.Native.Nat.{_+_, _-_, _*_, _/_, _%_, _^_, _≤_, _<_};
 ghost use mathlib.Core.Bool.{_&&_, cond};
 ghost use lib.Bits.{bitAnd, bitXor};
@@ -52,13 +52,13 @@ const UPPER_BOTH: u64 = UPPER + UPPER * WORDS;
 // Six in each byte of two words.
 const SIXES_BOTH: u64 = SIXES + SIXES * WORDS;
 
-// A word of digits times this has, from its second byte on, ten times each digit and the next one.
+// A word of digits times this has, from its second byte on, ten times each digit and the next one, a byte each.
 const TENS: u64 = 10 * 256 + 1;
 
-// Where the pairs of digits stand then: the first and the third byte.
+// Where the two pairs of digits stand, once its lowest byte is dropped: the first and the third byte.
 const PAIRS: u64 = 0x00ff_00ff;
 
-// These pairs times this have, from the third byte on, a hundred times the first and the second.
+// These pairs times this have, in the third and fourth byte, a hundred times the first pair and the second.
 const HUNDREDS: u64 = 100 * 65536 + 1;
 
 // A byte as a number.
@@ -82,8 +82,8 @@ fn word(a: u8, b: u8, c: u8, d: u8) -> u64
     (a as u64 + b as u64 * 256 + c as u64 * 65536 + d as u64 * 16777216) ^ ZEROS
 }
 
-// What the four digits of a word write.
-fn value(w: u64) -> u64
+// The number that the four digits of a word write.
+fn four(w: u64) -> u64
     requires { ⌜ w < 2 ^ 32 ⌝ }
     ensures { λ r. ⌜ r ≡ bitAnd (w * 2561 / 256) 0x00ff_00ff * 6553601 / 65536 % 65536 ⌝ }
 {
@@ -99,10 +99,11 @@ fn written(w: u64) -> Number
     if (w & UPPER) | ((w + SIXES) & UPPER) != 0 {
         return Number::No;
     }
-    Number::Is(value(w))
+    Number::Is(four(w))
 }
 
-// What the eight bytes of two words write. Both words are tested at once.
+// What the eight bytes of two words write. Both words are tested at once; the sum wraps only where the last byte has an upper bit,
+// which the first test finds.
 fn both(a: u64, b: u64) -> Number
     requires { ⌜ (a < 2 ^ 32) × (b < 2 ^ 32) ⌝ }
     ensures { λ r. ⌜ r ≡ digitsOf 8 ((a % 256 + 48) ∷ (a / 256 % 256 + 48) ∷ (a / 65536 % 256 + 48) ∷ (a / 16777216 + 48) ∷ (b % 256 + 48) ∷ (b / 256 % 256 + 48) ∷ (b / 65536 % 256 + 48) ∷ (b / 16777216 + 48) ∷ []) ⌝ }
@@ -112,7 +113,24 @@ fn both(a: u64, b: u64) -> Number
     if (w & UPPER_BOTH) | (more & UPPER_BOTH) != 0 {
         return Number::No;
     }
-    Number::Is(value(a) * 10000 + value(b))
+    Number::Is(four(a) * 10000 + four(b))
+}
+
+// The word of the first bytes of a text, at most four: zeros come before them, and the bytes after them go.
+fn front(text: &[u8], count: usize) -> u64
+    requires { ⌜ (count ≤ 4) × (4 ≤ length (now text)) ⌝ }
+    ensures { λ r. ⌜ (r < 2 ^ 32) × ((r % 256 + 48) ∷ (r / 256 % 256 + 48) ∷ (r / 65536 % 256 + 48) ∷ (r / 16777216 + 48) ∷ [] ≡ map (λ b. bitXor b 48 + 48) (replicate (4 - count) 48 ++ take count (now (text .entry)))) ⌝ }
+{
+    let w = word(text[0], text[1], text[2], text[3]);
+    (w << (32 - 8 * count)) % WORDS
+}
+
+// The first digits, at most four.
+fn first(text: &[u8], count: usize) -> Number
+    requires { ⌜ (count ≤ 4) × (4 ≤ length (now text)) ⌝ }
+    ensures { λ r. ⌜ r ≡ digitsOf 4 (replicate (4 - count) 48 ++ take count (now (text .entry))) ⌝ }
+{
+    written(front(text, count))
 }
 
 // The four digits from a place on.
@@ -121,15 +139,6 @@ fn next(text: &[u8], at: usize) -> Number
     ensures { λ r. ⌜ r ≡ digitsOf 4 (take 4 (drop at (now (text .entry)))) ⌝ }
 {
     written(word(text[at], text[at + 1], text[at + 2], text[at + 3]))
-}
-
-// The first digits, at most four: zeros come before them in the word, and its later bytes go.
-fn first(text: &[u8], count: usize) -> Number
-    requires { ⌜ (count ≤ 4) × (4 ≤ length (now text)) ⌝ }
-    ensures { λ r. ⌜ r ≡ digitsOf 4 (replicate (4 - count) 48 ++ take count (now (text .entry))) ⌝ }
-{
-    let w = word(text[0], text[1], text[2], text[3]);
-    written((w << (32 - 8 * count)) % WORDS)
 }
 
 // 1 to 3 digits.
@@ -159,18 +168,18 @@ fn short(text: &[u8]) -> Number
     Number::Is((a * 10 + b) * 10 + c)
 }
 
-// 4 to 8 digits: the last four, and those before them behind zeros.
+// 4 to 8 digits: those before the last four, and the last four.
 fn middle(text: &[u8]) -> Number
     requires { ⌜ (4 ≤ length (now text)) × (length (now text) ≤ 8) ⌝ }
     ensures { λ r. ⌜ r ≡ digitsOf 18 (now (text .entry)) ⌝ }
 {
     let k = text.len() - 4;
-    let a = word(text[0], text[1], text[2], text[3]);
+    let a = front(text, k);
     let b = word(text[k], text[k + 1], text[k + 2], text[k + 3]);
-    both((a << (32 - 8 * k)) % WORDS, b)
+    both(a, b)
 }
 
-// The same, where there may be more: the first one to four, then four a turn.
+// 4 digits or more: the first one to four, then four a turn.
 fn long(text: &[u8]) -> Number
     requires { ⌜ (4 ≤ length (now text)) × (length (now text) ≤ 18) ⌝ }
     ensures { λ r. ⌜ r ≡ digitsOf 18 (now (text .entry)) ⌝ }
@@ -192,7 +201,7 @@ fn long(text: &[u8]) -> Number
     Number::Is(v)
 }
 
-// 4 to 18 digits.
+// 4 to 18 digits: `long` would do for all, and `middle` takes less.
 fn many(text: &[u8]) -> Number
     requires { ⌜ (4 ≤ length (now text)) × (length (now text) ≤ 18) ⌝ }
     ensures { λ r. ⌜ r ≡ digitsOf 18 (now (text .entry)) ⌝ }
@@ -278,7 +287,7 @@ fn leads(text: &[u8]) -> bool
     text[0] == 48
 }
 
-// A whole number: 1 to width digits without a leading zero, except 0 itself.
+// A whole number: 1 to width digits without a leading zero, except 0 itself. Not by `digits`: a function with two callers stays one.
 pub fn whole(text: &[u8], width: usize) -> Number
     ensures { λ r. ⌜ r ≡ wholeOf width (now (text .entry)) ⌝ }
 {

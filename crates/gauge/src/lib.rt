@@ -1,5 +1,5 @@
-// The reader of digits by itself, for the bench to measure, beside the one before it. In the archive that users link it is taken
-// into its callers; this crate is not in that archive.
+// The reader of digits by itself, for the bench to measure, beside the one before it. In the archive that users link, fields that may
+// have more than three digits call one function of it, and the others have its loop in them; this crate is not in that archive.
 ghost use mathlib.Core.Path.{_≡_};
 ghost use Rattle.digits.specs.Digits.{digitsOf};
 ghost use Rattle.gauge.specs.Gauge.{gaugeOf};

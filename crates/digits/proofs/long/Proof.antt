@@ -5,8 +5,8 @@ use native.Mathlib.Omega.{arith}
 use lib.ListN.{length, drop}
 use Rattle.digits.specs.Digits.{digitsOf}
 use Rattle.digits.proofs.Width.{below, small, push-four}
-use Rattle.digits.proofs.Steps.{rest, done}
-use Rattle.digits.proofs.Parts.{begun, after-first, none-first, after-next, none-next}
+use Rattle.digits.proofs.Steps.{rest, begun, done}
+use Rattle.digits.proofs.Parts.{after-first, none-first, after-next, none-next}
 use borrow.Author.Needs.{needs}
 use Rattle.digits.proofs.long.Statement.{statement}
 use Rattle.digits.proofs.long.Tie as tie
@@ -36,14 +36,14 @@ returns : tie.Need-returns Inv-loop μ-loop
 returns c =
     let p = c .before .before .before .before in
     let s = p .args .text .now in
-    sym (begun s (p .pre .0) (p .pre .1) ∙ none-first s ((length s - 1) % 4 + 1) (omega arith) (p .pre .0) (sym (c .before .before .first .ensures) ∙ c .enum-told .given .1))
+    sym (begun s 18 (omega (arith, p .pre .0)) (p .pre .1) ∙ none-first s ((length s - 1) % 4 + 1) (omega arith) (p .pre .0) (sym (c .before .before .first .ensures) ∙ c .enum-told .given .1))
 
 loop-holds : tie.Need-loop-holds Inv-loop μ-loop
 loop-holds c =
     let p = c .before .before .before .before .before in
     let s = p .args .text .now in
     let a = after-first s ((length s - 1) % 4 + 1) (omega arith) (p .pre .0) (sym (c .before .before .before .first .ensures) ∙ c .before .a .given .1) in
-    (omega (arith, p .pre .0), omega (arith, p .pre .0), a .1, begun s (p .pre .0) (p .pre .1) ∙ a .0)
+    (omega (arith, p .pre .0), omega (arith, p .pre .0), a .1, begun s 18 (omega (arith, p .pre .0)) (p .pre .1) ∙ a .0)
 
 next-requires : tie.Need-next-requires Inv-loop μ-loop
 next-requires c κs = search needs

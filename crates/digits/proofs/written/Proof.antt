@@ -13,12 +13,12 @@ returns : tie.Need-returns
 returns c =
     sym (writes-none (c .before .args .w) (c .before .pre) (c .if1 .taken))
 
-value-requires : tie.Need-value-requires
-value-requires c κs = search needs
+four-requires : tie.Need-four-requires
+four-requires c κs = search needs
 
 returns-2 : tie.Need-returns-2
 returns-2 c =
-    ap Is (c .value .ensures) ∙ sym (writes (c .before .before .args .w) (c .before .before .pre) (c .before .if1 .left))
+    ap Is (c .four .ensures) ∙ sym (writes (c .before .before .args .w) (c .before .before .pre) (c .before .if1 .left))
 
 pub written-spec : {M : Type 1} → statement M
-written-spec = tie.close (tie.spec add-if1 returns value-requires returns-2)
+written-spec = tie.close (tie.spec add-if1 returns four-requires returns-2)

@@ -6,7 +6,7 @@ use native.Mathlib.Omega.{arith}
 use lib.ListN.{drop}
 use Rattle.digits.specs.Digits.{digitsOf}
 use Rattle.digits.proofs.Width.{push, small}
-use Rattle.digits.proofs.Steps.{rest, none, long, wide, fit, low, high, more, done}
+use Rattle.digits.proofs.Steps.{rest, none, long, too-wide, fit, low, high, more, done}
 use Rattle.gauge.proofs.by_one.Statement.{statement}
 use Rattle.gauge.proofs.by_one.Tie as tie
 
@@ -23,7 +23,7 @@ returns-2 : tie.Need-returns-2 Inv-loop μ-loop
 returns-2 c = sym (long _ _ (omega arith) (c .if2 .taken))
 
 returns-3 : tie.Need-returns-3 Inv-loop μ-loop
-returns-3 c = sym (wide _ _ (omega arith) (c .before .if2 .left) (c .if3 .taken))
+returns-3 c = sym (too-wide _ _ (c .if3 .taken))
 
 loop-holds : tie.Need-loop-holds Inv-loop μ-loop
 loop-holds c = (omega arith, omega arith, omega arith, fit _ _ (omega arith) (c .before .if2 .left) (c .if3 .left))

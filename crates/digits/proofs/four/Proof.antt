@@ -1,10 +1,10 @@
--- `digits::value` meets its contract. Assumes nothing.
+-- `digits::four` meets its contract. Assumes nothing.
 use Prim.Native.Nat.{_*_, _/_}
 use native.Mathlib.Omega.{arith}
 use lib.Bits.{and-le-r}
 use borrow.Author.Needs.{needs}
-use Rattle.digits.proofs.value.Statement.{statement}
-use Rattle.digits.proofs.value.Tie as tie
+use Rattle.digits.proofs.four.Statement.{statement}
+use Rattle.digits.proofs.four.Tie as tie
 
 mul-pairs : tie.Need-mul-pairs
 mul-pairs c = search needs
@@ -16,5 +16,5 @@ mul-result c =
 returns : tie.Need-returns
 returns c = search needs
 
-pub value-spec : {M : Type 1} → statement M
-value-spec = tie.close (tie.spec mul-pairs mul-result returns)
+pub four-spec : {M : Type 1} → statement M
+four-spec = tie.close (tie.spec mul-pairs mul-result returns)
