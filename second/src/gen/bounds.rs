@@ -97,7 +97,8 @@ pub fn bound(rng: &mut Rng, tag: u32) -> Vec<u8> {
     }
 }
 
-/// Digits of any length, up to one more than a tag's value may have; `None` where it has none.
+/// A whole number of any length up to one digit more than a tag's value may have, or a good price, date, time or moment; `None` for a
+/// tag whose value is none of these.
 fn digits(rng: &mut Rng, tag: u32) -> Option<String> {
     let widest = match tag {
         270 => return Some(values::price(rng)),
@@ -116,15 +117,25 @@ fn digits(rng: &mut Rng, tag: u32) -> Option<String> {
     Some(values::whole(rng, n))
 }
 
-/// The text with one byte that is nearly a digit: one beside them, or a digit with other high bits.
+/// The text with one of its digits nearly so: a byte beside the digits, or the digit with other high bits.
 pub fn near_miss(rng: &mut Rng, text: String) -> Vec<u8> {
+    miss(rng, text, &[0x10, 0x40, 0x80])
+}
+
+/// The same with a byte below 128.
+pub fn near_miss_ascii(rng: &mut Rng, text: String) -> String {
+    miss(rng, text, &[0x10, 0x40]).into_iter().map(char::from).collect()
+}
+
+fn miss(rng: &mut Rng, text: String, high_bits: &[u8]) -> Vec<u8> {
     let mut bytes = text.into_bytes();
-    let i = rng.below(bytes.len());
+    let places: Vec<usize> = (0..bytes.len()).filter(|i| bytes[*i].is_ascii_digit()).collect();
+    let i = *rng.pick(&places);
     bytes[i] = match rng.below(6) {
         0 => b'/',
         1 | 2 => b':',
         3 => b' ',
-        _ => bytes[i] ^ *rng.pick(&[0x10, 0x40, 0x80]),
+        _ => bytes[i] ^ *rng.pick(high_bits),
     };
     bytes
 }

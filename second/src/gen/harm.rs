@@ -217,11 +217,11 @@ fn with_bad_field(rng: &mut Rng, draft: &Draft) -> Draft {
     draft
 }
 
-/// A tag of 1 to 6 digits, one of them nearly so.
+/// A tag of 1 to 6 digits, one of them nearly so: a byte below 128.
 fn near_tag(rng: &mut Rng) -> String {
     let n = rng.between(1, 6);
     let digits = values::whole(rng, n);
-    bounds::near_miss(rng, digits).into_iter().map(char::from).collect()
+    bounds::near_miss_ascii(rng, digits)
 }
 
 /// A chain that doesn't begin 8, 9, 35, or is nothing but its ends.
