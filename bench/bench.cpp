@@ -1,7 +1,8 @@
 // bench time DICTIONARY ROUNDS: the time of one call, the proved code beside its peers on the same bytes in the same run.
 // bench count DICTIONARY [FEW]: the same calls once each, for callgrind to count their instructions; with FEW, of few cases.
-// bench agree: whether the plain reader in C, and the plain loop over digits, answer what the proved code does; says how often each answer
-// came, and what the ends of loops and empty books of all instruments brought.
+// bench agree: whether the plain reader in C answers what the proved code does, and whether the three readers of digits answer alike: the
+// proved one, the proved one before it, which reads one digit a turn, and the plain loop in C; says how often each answer of a feed came,
+// and what the ends of loops and empty books of all instruments brought.
 // bench recordings: whether it finds the same pieces in each recording; says what the recordings hold.
 // `time` writes a table of tab-separated columns; a call of `count` is named in callgrind's own file by the same columns.
 #include <algorithm>
@@ -567,11 +568,11 @@ void count_all(std::vector<Measured> &all) {
     }
 }
 
-// Fails where a plain reader answers or holds something else, or where an answer never came, or the ends of loops or empty books of all
-// instruments brought too little; prints the messages by answer, and what those brought.
+// Fails where the readers of digits differ, where the plain reader answers or holds something else, where an answer never came, or where
+// the ends of loops or empty books of all instruments brought too little; prints the messages by answer, and what those brought.
 void agree() {
     const std::string read = reading_difference();
-    if (!read.empty()) fail("the plain loop over digits differs: " + read);
+    if (!read.empty()) fail("the readers of digits differ: " + read);
     for (Depth depth : {ORDER_DEPTH, PRICE_DEPTH}) {
         Brought brought;
         const std::string differs = disagreement(depth, AGREED, brought);

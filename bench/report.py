@@ -22,13 +22,13 @@ AIMS = (
     ("the walk of a whole recording takes at most 0.2 of QuickFIX's parse",
      lambda waiting: [EVEN, MIXED] if waiting == 0 else [], "salvage", "parse", lambda ratio: ratio <= 0.2),
 )
-# Aims on the instructions of the reader of digits, beyond those of a call that reads nothing: of which values, and the most that it may
-# take of what one digit a turn takes.
+# Aims on the instructions of the reader of digits, counted once, less those of a call that reads nothing: what each says, of which values,
+# and the most that it may take of what one digit a turn takes.
 LONG_VALUES = [Values(digits, "good") for digits in ("5", "8", "12", "18")]
 DIGIT_AIMS = (
-    ("reading 5 digits and more takes at most 2/3 of the instructions of one a turn", LONG_VALUES, 2 / 3),
-    ("reading fewer digits, or bad ones, takes no more instructions than one a turn",
-     [values for values in VALUES if values not in LONG_VALUES and " to " not in values.digits], 1),
+    ("reading good values of one length, 5 digits and more, takes at most 2/3 of the instructions of one a turn", LONG_VALUES, 2 / 3),
+    ("reading all others, bad ones and mixed lengths too, takes no more instructions than one a turn",
+     [values for values in VALUES if values not in LONG_VALUES], 1),
 )
 STACK_AIM = f"the deepest stack is under {MOST_STACK:,} bytes"
 
@@ -106,16 +106,18 @@ NOTES = """\
   `quote` does. Before it is timed, the books are compared, and all numbers of both lots with what the plain reader's places bring;
   the run fails where there are not 20 bids, or where a lot that is timed is not answered 0. `selkavorn_buy` does the same with the
   offers: its stack is measured, and it is not timed.
-- The reader of digits is `digits::digits` with a width of 18, exported by itself (`crates/gauge`): in the archive that users link it is
-  taken into its callers, so that a call of it there may take less. Beside it stands the proved reader that it took the place of, which
+- The reader of digits is `digits::digits` with a width of 18, exported by itself (`crates/gauge`). In the archive that users link, a
+  value whose field may have more than 3 digits is read by a call of one function, `digits::read`, which is here taken whole into the
+  exported one; where a field has at most 3, the value is read by a loop that is taken into each caller, and that is not measured. So the
+  rows of 1 to 3 digits are of values in a field that may have more. Beside it stands the proved reader that it took the place of, which
   reads one digit a turn and has the same contract, and such a loop in C (`bench/digits.c`). Of each sort there are 16,384 values
   (`bench/values.cpp`), the same in every run, end to end with a SOH behind each. Digits are drawn, the first from 1 to 9, and so are
-  lengths where they differ, evenly. A bad value has one byte that is no digit, at a drawn place: `/`, `:`, or a drawn one. They are so
-  many that the processor cannot know by heart where a value ends or is bad: in a reader that goes by that, its wrong guesses are in the
-  time. A round reads all of a sort, a call each, and fails where the sum of the answers is not that of what was written. The time of a
-  digit is that of a value over how many bytes it has, also where it is bad and not read to its end; its instructions are so too, without
-  those of a call that reads nothing. Before anything is timed, all three must answer the same to all these values, and to texts of 0 to
-  20 bytes with every byte at every place.
+  lengths where they differ, evenly. A bad value has one byte that is no digit, at a drawn place: `/`, `:`, or a drawn one. There are too
+  many for the processor to learn which are bad, or how long each is where lengths differ, so a reader's wrong guesses are in its time. A
+  round reads all of a sort, a call each, and fails where the sum of the answers is not that of what was written. The time of a digit is
+  that of a value over how many bytes it has, also where it is bad and not read to its end; its instructions are so too, without those of
+  a call that reads nothing. Before anything is timed, all three must answer the same to all these values, and to texts of 0 to 20 bytes
+  with every byte at every place.
 - A recording (`bench/recordings.cpp`) is messages of such streams end to end, at order depth, the same in every run: X of 1 entry
   alone; or mixed, with, of 16 messages on average, ten X of 1 entry, three of 4, one of 10, a heartbeat and a snapshot of 40 entries.
   Both are longer than a usual second-level cache. A damaged byte is replaced by a drawn one. Where that is one in 10, next to no
@@ -127,9 +129,10 @@ NOTES = """\
 - Before a walk is timed, its pieces are compared one by one, in kind, place and length, with those of a walk that asks the plain
   reader at each byte, and must cover the recording; when it is timed, their number is compared.
 - The store starts at an address that 64 divides, as a line of the cache does (`bench/store.hpp`). A time depends on where in
-  memory it lies, so each round takes another of 31 copies; a scan and its loop have the same one. The proved code starts at such an
-  address too (`bench/align.c`), and so does each reader of digits, so that builds of the bench compare. In another program it may lie
-  less well: in a build without that the scan where the queue is full took a fifth more on a Neoverse-N1.
+  memory it lies, so each round takes another of 31 copies; a scan and its loop have the same one. The proved code as a whole starts at
+  such an address too (`bench/align.c`), and so does each of the three readers of digits (`bench/Makefile`), so that builds of the bench
+  compare. In another program the proved code may lie less well: in a build without that the scan where the queue is full took a fifth
+  more on a Neoverse-N1.
 - A time is the processor's time of the thread, by round, divided by the calls of the round; the rounds of the rows take turns, and
   each is done once before it is timed, so that what it needs is in the caches, as far as they hold it. Recordings have a third of the
   rounds. A repetition is a run of the program, with addresses of its own, and its time is the mean of the middle half of its rounds. A
@@ -226,7 +229,7 @@ def digit_share(run, values):
 
 def digit_figures(run, values, what):
     """The cells of a reader of digits on one machine: of a value time, span and instructions, of a digit both, and its shares of the time
-    and the instructions of one digit a turn."""
+    and the instructions of one digit a turn. The instructions of a digit, and the share of instructions, are beyond the call."""
     cells = figures(run, values, what, 1)
     if what == "nothing":
         return cells + ["-"] * 4
@@ -245,8 +248,8 @@ def digits(runs):
             if (values, what) in runs[0].times:
                 rows.append([name, meaning] + [cell for run in runs for cell in digit_figures(run, values, what)])
                 name = ""
-    heads = of_machines(runs, "ns a value", "lowest to highest", "instructions", "ns a digit", "instructions a digit", "time / one a turn",
-                        "instructions / one a turn")
+    heads = of_machines(runs, "ns a value", "lowest to highest", "instructions", "ns a digit", "instructions a digit, call left out",
+                        "time / one a turn", "instructions / one a turn, call left out")
     return table(["values", ""] + heads, rows, 2)
 
 
@@ -299,7 +302,8 @@ def verdict(good):
 
 
 def judged(run):
-    """For each aim: what it says, the worst of each state, and whether it is met in every row and repetition where none waits."""
+    """For each aim: what it says, the worst of each state, and whether it is met: one on times in every row and repetition where none
+    waits; one on digits, whose instructions are counted once, in every row; the one on the stack by the deepest call."""
     for says, of, what, other, is_good in AIMS:
         found = [[r for case in of(waiting) for r in run.ratios(case, what, other)] for waiting in range(len(STATES))]
         yield says, [f"{max(values):.2f}" if values else "-" for values in found], verdict([is_good(r) for r in found[0]])
@@ -349,9 +353,11 @@ def measured(runs):
     yield "![Time of one message, the proved code beside its peers](bench.svg)\n"
     yield "## Aims\n"
     yield aims(runs)
-    yield ("The aims are for boards on which none waits; where one waits, the same is measured without an aim. A ratio is of times. An "
-           "aim is judged in every row and every repetition that it speaks of, order and price depth both; the figure is the worst of "
-           "them. The stack is the deepest of all calls measured, of the archive for x86-64 too.\n")
+    yield ("The aims are for boards on which none waits; where one waits, the same is measured without an aim. A ratio is of times, and "
+           "its aim is judged in every row and every repetition that it speaks of, order and price depth both; the figure is the worst of "
+           "them. But the two aims on digits have no board: their ratios are of instructions, counted once, less those of a call that "
+           "reads nothing, and are judged in every row that they speak of. The stack is the deepest of all calls measured, of the archive "
+           "for x86-64 too.\n")
     for waiting, state in enumerate(STATES):
         yield f"## Ratios, {state}\n"
         yield ratios(runs, waiting)
@@ -363,8 +369,9 @@ def measured(runs):
            "open.\n")
     yield others(runs)
     yield "## Reading digits\n"
-    yield ("The reader of digits by itself, with a width of 18. A figure is of one value, with its call and the loop around it; what these "
-           "take where nothing is read stands first.\n")
+    yield ("The reader of digits by itself, with a width of 18. All times, their ratio, and the instructions of a value are with the call "
+           "and the loop around it. What these take where nothing is read stands first; the two columns whose heads say so are without "
+           "the instructions of that.\n")
     yield digits(runs)
     yield "## The walk of a recording\n"
     yield ("A time is of one message that was recorded, or of one false start: that of the whole walk divided by how many there are. "

@@ -17,7 +17,7 @@ SCANS = Case("order", 0, 0)
 Recording = namedtuple("Recording", "name")
 EVEN, MIXED, STARTS = Recording("even"), Recording("mixed"), Recording("false starts")
 
-# Values for a reader of digits, by how many they have, as words, and whether they are good or bad.
+# Values for a reader of digits, by how many digits they have, as words, and whether they are good or bad.
 Values = namedtuple("Values", "digits sort")
 VALUES = [Values(digits, sort) for digits in ("1", "2", "3", "4", "5", "8", "12", "18", "1 to 4", "1 to 18") for sort in ("good", "bad")]
 

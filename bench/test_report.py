@@ -144,7 +144,8 @@ class Report(unittest.TestCase):
         more = made()
         more.instructions[Values("5", "good"), "digits"] = 33
         more.instructions[Values("3", "bad"), "digits"] = 40
-        self.assertEqual([(worst[0], met) for _, worst, met in judged(more)][5:7], [("0.70", "met in 3 of 4"), ("1.05", "met in 11 of 12")])
+        more.instructions[Values("1 to 18", "good"), "digits"] = 41
+        self.assertEqual([(worst[0], met) for _, worst, met in judged(more)][5:7], [("0.70", "met in 3 of 4"), ("1.10", "met in 14 of 16")])
 
     def test_the_spread_of_a_reader_of_digits_counts(self):
         noisy = made(changed={(Values("1", "good"), "digits"): [1.0, 1.2, 1.1]}).noisy()

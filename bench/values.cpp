@@ -5,8 +5,8 @@
 
 namespace {
 
-// So many that the processor does not know by heart where the next one ends or is bad, and so few that a usual second-level cache holds
-// them.
+// Too many for the processor to learn which are bad, or how long each is where lengths differ, and so few that a usual second-level cache
+// holds them.
 constexpr int VALUES_OF_A_SORT = 16384;
 constexpr unsigned LONGEST_TRIED = 20; // bytes
 
@@ -44,13 +44,24 @@ Values values_of(unsigned shortest, unsigned longest, bool good) {
     return values;
 }
 
+// A value with each byte that is no digit in hex.
+std::string shown(const std::string &value) {
+    const char *const hex = "0123456789abcdef";
+    std::string text;
+    for (char byte : value) {
+        const unsigned code = static_cast<unsigned char>(byte);
+        text += is_digit(byte) ? std::string(1, byte) : std::string("\\x") + hex[code / 16] + hex[code % 16];
+    }
+    return "'" + text + "'";
+}
+
 // Says what the readers answer to a value where that differs, or nothing.
 std::string difference(const std::string &value) {
     const uint8_t *const at = reinterpret_cast<const uint8_t *>(value.data());
-    const uint64_t now = selkavorn_gauge_digits(at, value.size()), before = selkavorn_gauge_by_one(at, value.size()),
+    const uint64_t now = selkavorn_gauge_digits(at, value.size()), by_one = selkavorn_gauge_by_one(at, value.size()),
                    plain = plain_digits(at, value.size());
-    if (now == plain && before == plain) return "";
-    return "'" + value + "' is answered " + std::to_string(now) + ", before " + std::to_string(before) + ", and " + std::to_string(plain);
+    if (now == plain && by_one == plain) return "";
+    return shown(value) + ": now " + std::to_string(now) + ", by one " + std::to_string(by_one) + ", plain " + std::to_string(plain);
 }
 
 // The same for a text and all that differ from it in one byte.
