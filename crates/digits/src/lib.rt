@@ -212,14 +212,12 @@ fn many(text: &[u8]) -> Number
     long(text)
 }
 
-// 1 to width digits as their number, or NONE.
+// 1 to width digits as their number, or NONE, where these may be more than few.
 fn read(text: &[u8], width: usize) -> u64
+    requires { ⌜ 3 < width ⌝ }
     ensures { λ r. ⌜ digitsOf width (now (text .entry)) ≡ cond (eqb r 18446744073709551615) Number.No (Number.Is r) ⌝ }
 {
     let n = text.len();
-    if width < n {
-        return NONE;
-    }
     if WIDEST < width {
         return NONE;
     }
@@ -231,6 +229,9 @@ fn read(text: &[u8], width: usize) -> u64
             return NONE;
         };
         return v;
+    }
+    if width < n {
+        return NONE;
     }
     let Number::Is(v) = many(text) else {
         return NONE;
