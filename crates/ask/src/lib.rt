@@ -1,5 +1,7 @@
 // What a caller asks of a store without changing it: a dated quote, and the state of an instrument, each as numbers in room
 // that the caller lends (document 01, "Quote and writing"). A refusal writes nothing there.
+#![tactic(auto)]
+
 ghost use Rattle.std.specs.Prelude.{◌≡◌, true, cond, ◌+◌, ◌≤◌, ◌<◌, length};
 ghost use Rattle.std.proofs.lemmas.List.Edits.{sets};
 ghost use Rattle.moment.specs.Moments.{moments};

@@ -1,5 +1,7 @@
 // A quote of a raw store and the whole side behind it, by value (document 02, K11). Its contract speaks of the board: what rests on this
 // crate looks at no number of the store, and has every refusal of a quote from here.
+#![tactic(auto)]
+
 ghost use Rattle.std.specs.Prelude.{◌≡◌, true, cond, ◌≤◌, ◌<◌, length};
 ghost use Rattle.cells.specs.Cells.{side_at};
 ghost use Rattle.store.specs.Layout.{store_size, bids_of, offers_of};
@@ -10,7 +12,7 @@ use book::Side;
 use quote::Quoted;
 
 // A quote, or why there is none, and the side behind it; where no quote is given, a side that holds nothing.
-#[derive(Drop)]
+#[derive(Clone, Copy)]
 pub struct Backed {
     pub quoted: Quoted,
     pub side: Side,

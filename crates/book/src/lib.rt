@@ -1,5 +1,7 @@
 // A side of a book and a book of two sides, with what one entry of a message does to them (document 01, "A side of a
 // book"). A side is asked first whether it refuses; where it does not it goes in by value, is shifted, and comes back.
+#![tactic(auto)]
+
 ghost use Rattle.std.specs.Prelude.{◌≡◌, ◌∷◌, ◌++◌, ◌+◌, ◌≤◌, take, drop};
 ghost use Rattle.book.specs.Ids.{id_fine};
 ghost use Rattle.book.specs.Rules.{most_places};
@@ -46,7 +48,7 @@ pub const NO_ROOM: u64 = 2;
 
 // One place of a side. price is a whole number; its unit is nothing to a book. by and more are the two numbers of the order id,
 // or the number of orders and 0. moment is a date and time as one number. An unused place is all zero.
-#[derive(Drop)]
+#[derive(Clone, Copy)]
 pub struct Entry {
     pub price: i64,
     pub size: u64,
@@ -56,14 +58,14 @@ pub struct Entry {
 }
 
 // The bids or the offers, place 1 first; the first `held` places are used.
-#[derive(Drop)]
+#[derive(Clone, Copy)]
 pub struct Side {
     pub places: [Entry; 20],
     pub held: usize,
 }
 
 // The bids and the offers of one instrument.
-#[derive(Drop)]
+#[derive(Clone, Copy)]
 pub struct Book {
     pub bids: Side,
     pub offers: Side,
@@ -71,7 +73,7 @@ pub struct Book {
 
 // One entry of a message. who is the instrument: its SecurityID in a message, its index on a board; 0 where the entry is for all.
 // what: 0 bid, 1 offer, 2 J, 3 J for all. action: 0 new, 1 change, 2 delete, 3 delete thru, 4 delete from. Places count from 1.
-#[derive(Drop)]
+#[derive(Clone, Copy)]
 pub struct Update {
     pub who: u64,
     pub what: u64,
@@ -81,14 +83,14 @@ pub struct Update {
 }
 
 // A side after an operation. reason: 0 done, 1 place, 2 no room; with 1 and 2 the side is as it was.
-#[derive(Drop)]
+#[derive(Clone, Copy)]
 pub struct Done {
     pub side: Side,
     pub reason: u64,
 }
 
 // The same for a book.
-#[derive(Drop)]
+#[derive(Clone, Copy)]
 pub struct Turn {
     pub book: Book,
     pub reason: u64,

@@ -1,5 +1,7 @@
 // Gregorian dates of the years 0000 to 9999 as day numbers, counted from 0 for 0000-01-01, and back (document 01,
 // "Fields": 52 and 272). A date is the number that YYYYMMDD writes; every day number below DAYS is a date's.
+#![tactic(auto)]
+
 ghost use Rattle.std.specs.Prelude.{◌≡◌, true, ◌≤◌, ◌<◌};
 ghost use Rattle.calendar.specs.Calendar.{days, leap, days_in, days_to, year_days, days_before, is_date, day_of, year_of, month_of, date_in, date_number};
 

@@ -1,5 +1,7 @@
 // Entries, sides and queued entries in the lent run of numbers: read from a place, and written at one (document 01: "All
 // books live in one lent run of 64-bit numbers"). Every function takes the whole run and an index into it.
+#![tactic(auto)]
+
 ghost use Rattle.std.specs.Prelude.{◌≡◌, ◌+◌, ◌≤◌, length, take};
 ghost use Rattle.std.proofs.lemmas.List.Edits.{sets};
 ghost use Rattle.cells.specs.Cells.{zeros, words, entry_at, side_size, side_words, side_at, update_words, queued_words, update_at};

@@ -1,18 +1,20 @@
 // A message is a chain of fields (document 01, "Frame"): each is a tag, '=', a value and SOH. Nothing is copied: an answer holds
 // places in the lent bytes.
+#![tactic(auto)]
+
 ghost use Rattle.std.specs.Prelude.{◌≡◌, ◌≤◌, length};
 ghost use Rattle.chain.specs.Fields.{fields_of};
 ghost use Rattle.chain.specs.Places.{first_of, field_at, Tells, is_some};
 
 // A field: its tag, and its value as from..to, where SOH stands at to.
-#[derive(Drop)]
+#[derive(Clone, Copy)]
 pub enum Step {
     Is { tag: u64, from: usize, to: usize },
     No,
 }
 
 // A tag, and where its '=' stands.
-#[derive(Drop)]
+#[derive(Clone, Copy)]
 enum Tag {
     Is { tag: u64, mid: usize },
     No,

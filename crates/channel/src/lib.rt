@@ -1,5 +1,7 @@
 // A message that was read, given to the board in the store (document 01, "Numbers, queue and marks"): a number is counted,
 // a snapshot taken or refused, and a message that could not be read changes nothing.
+#![tactic(auto)]
+
 ghost use Rattle.std.specs.Prelude.{◌≡◌, ◌*◌, ◌≤◌, length};
 ghost use Rattle.cells.specs.Runs.{update_size, updates_in};
 ghost use Rattle.message.specs.Message.{said};

@@ -1,5 +1,7 @@
 // A message with a number, in place on the store (document 01, "Numbers, queue and marks"): at most H is old, more than H+1
 // is a gap; it is counted, its entries join the queue if any waits, and Live instruments get theirs.
+#![tactic(auto)]
+
 ghost use Rattle.std.specs.Prelude.{◌≡◌, ◌*◌, ◌≤◌, length};
 ghost use Rattle.cells.specs.Runs.{update_size, updates_in};
 ghost use Rattle.store.specs.Meaning.{st};

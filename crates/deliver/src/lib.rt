@@ -1,5 +1,7 @@
 // Live instruments get their entries, in place in the store (document 01, "A side of a book" and "Numbers, queue and
 // marks"). A breach breaks the instrument: both sides emptied, mark Waiting, the reason.
+#![tactic(auto)]
+
 ghost use Rattle.std.specs.Prelude.{◌≡◌, ◌+◌, ◌*◌, ◌≤◌, ◌<◌, length};
 ghost use Rattle.cells.specs.Cells.{side_size};
 ghost use Rattle.cells.specs.Runs.{update_size, updates_in};

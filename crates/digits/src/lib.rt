@@ -4,11 +4,13 @@
 // is known here alone.
 // Up to three digits are read one by one, more of them four at a time (document 02, K3). How this is cut into functions was measured:
 // docs/PROVING.md says what the compiler makes of it.
+#![tactic(auto)]
+
 ghost use Rattle.std.specs.Prelude.{◌≡◌, ◌+◌, ◌-◌, ◌*◌, ◌/◌, ◌%◌, ◌^◌, ◌<◌, ◌≤◌, ◌&&◌, [], ◌∷◌, ◌++◌, map, length, take, drop, replicate, if◌then◌else◌, ◌==◌, bit_and, bit_xor, nat_eq, nat_le, slice_index};
 ghost use Rattle.digits.specs.Digits.{digits_of, whole_of, ranged_of};
 
 // A number that was read, or none.
-#[derive(Drop)]
+#[derive(Clone, Copy)]
 pub enum Number {
     Is(u64),
     No,

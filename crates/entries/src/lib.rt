@@ -1,5 +1,7 @@
 // What an entry of a group says (document 01, "Fields", first and third paragraph). The values that it needs are read
 // from their marks; those that it doesn't need are not.
+#![tactic(auto)]
+
 ghost use Rattle.std.specs.Prelude.{◌≡◌, ◌<◌, eqb, length, get_or};
 ghost use Rattle.tags.specs.Slots.{text_at, marked};
 ghost use Rattle.entries.specs.Entries.{book_entry, empty_all, empty_book, entry_in_x, shown_entry, entry_in_w, said};
@@ -10,7 +12,7 @@ use tags::Marks;
 use values::Valued;
 
 // What an entry says: an update, or nothing, or it breaches a rule.
-#[derive(Drop)]
+#[derive(Clone, Copy)]
 pub enum Said {
     Is(Update),
     Passed,

@@ -1,4 +1,6 @@
 // One message on the store (document 01; document 02, K1): 17 first, then 11 to 14, then the rest.
+#![tactic(auto)]
+
 ghost use Rattle.feed.specs.Feeding.{Fed};
 
 // The Waiting count stands above the answer.

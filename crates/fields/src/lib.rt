@@ -1,6 +1,8 @@
 // The reader (document 01, "Frame" and "Fields"): from the bytes of a message to what a board takes. The frame is
 // checked first, but for the chain of the fields between 35 and 10: these are walked once, and bytes that are no field are
 // refused where they stand.
+#![tactic(auto)]
+
 ghost use Rattle.std.specs.Prelude.{◌≡◌, ◌≤◌, length};
 ghost use Rattle.message.specs.Message.{refused, told};
 ghost use Rattle.frame.specs.Frames.{frame_of};

@@ -1,5 +1,7 @@
 // The frame of a message (document 01, "Frame"): tags 8, 9, 35 and 10, the sum, and the type. Nothing is copied: an answer
 // holds places in the lent bytes.
+#![tactic(auto)]
+
 ghost use Rattle.std.specs.Prelude.{◌≡◌, ◌%◌, ◌<◌, ◌≤◌, min, length, take};
 ghost use Rattle.chain.specs.Places.{field_at};
 ghost use Rattle.frame.specs.Frames.{equal, total, is_type, typed, frame_of};
@@ -10,7 +12,7 @@ use digits::Number;
 
 // The type and the place of the first field after 35 (the trailer starts 7 bytes before the end), or the refusals 11,
 // 12 and 13.
-#[derive(Drop)]
+#[derive(Clone, Copy)]
 pub enum Framed {
     Is { kind: u8, from: usize },
     BadFrame,
@@ -19,7 +21,7 @@ pub enum Framed {
 }
 
 // What 9 says, where 35 starts, and its value as from..to.
-#[derive(Drop)]
+#[derive(Clone, Copy)]
 enum Opening {
     Is {
         count: u64,
@@ -31,7 +33,7 @@ enum Opening {
 }
 
 // The value of 35 as from..to, and what 10 says.
-#[derive(Drop)]
+#[derive(Clone, Copy)]
 enum Shape {
     Is { from: usize, to: usize, sum: u64 },
     No,

@@ -1,5 +1,7 @@
 // The reader of digits by itself, for the bench to measure, beside the one before it. In the archive that users link, fields that may
 // have more than three digits call one function of it, and the others have its loop in them; this crate is not in that archive.
+#![tactic(auto)]
+
 ghost use Rattle.std.specs.Prelude.{◌≡◌};
 ghost use Rattle.digits.specs.Digits.{digits_of};
 ghost use Rattle.gauge.specs.Gauge.{gauge_of};

@@ -1,6 +1,8 @@
 // The entries of a group (document 01, "Fields"): an outer loop over entries and an inner one over the fields of an entry.
 // Each entry is a place: what it holds is marked, and what it needs is read when it ends. What it says is written into a
 // lent run.
+#![tactic(auto)]
+
 ghost use Rattle.std.specs.Prelude.{◌≡◌, ◌≤◌, length};
 ghost use Rattle.chain.specs.Places.{left};
 ghost use Rattle.position.specs.Positions.{Fair};

@@ -1,12 +1,14 @@
 // A channel's heading by value: H, B, the heard moment, the marks, the length of the queue (document 01, "Numbers, queue
 // and marks"). Its methods take it, count a number, let the queue go, and hand it back.
+#![tactic(auto)]
+
 ghost use Rattle.std.specs.Prelude.{◌≡◌, ◌≤◌, ◌<◌};
 ghost use Rattle.heading.specs.Marks.{marked, marked_in, with_mark, without_mark};
 ghost use Rattle.heading.specs.Headings.{counted_to, let_go, gap_at, marks_now, queued_more};
 
 // depth: 0 order depth, 1 price depth. followed: how many instruments. number: H. base: B. heard: the moment of message H.
 // marks: one bit an instrument, 1 for Waiting. queued: how many entries the queue holds.
-#[derive(Drop)]
+#[derive(Clone, Copy)]
 pub struct Heading {
     pub depth: u64,
     pub followed: usize,

@@ -1,6 +1,8 @@
 // The digits of a price and what follows from them, and the numbers that hold a price, a moment and an order id, each an index of
 // one contiguous range, so that what is held is sound by comparisons alone (document 01: "All books live in one lent run of 64-bit
 // numbers").
+#![tactic(auto)]
+
 ghost use Rattle.std.specs.Prelude.{◌≡◌};
 ghost use Rattle.holding.specs.Prices.{held_of, of_held};
 

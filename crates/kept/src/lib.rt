@@ -1,5 +1,7 @@
 // What a message leaves alone (document 01, "Numbers, queue and marks"): one that is not read leaves the board as it was, and of a
 // snapshot neither the number nor the time is taken.
+#![tactic(auto)]
+
 ghost use Rattle.std.specs.Prelude.{◌≡◌, ◌*◌, ◌≤◌, length};
 ghost use Rattle.cells.specs.Runs.{update_size, updates_in};
 ghost use Rattle.message.specs.Message.{answer_of};

@@ -1,5 +1,7 @@
 // What leads to the entries of a message (document 01, "Fields"): what stands before 268 is one place, which is walked, and
 // what the type needs of it is read; 268 then says how many entries follow.
+#![tactic(auto)]
+
 ghost use Rattle.std.specs.Prelude.{◌≡◌};
 ghost use Rattle.message.specs.Message.{refused, told};
 ghost use Rattle.message.specs.declared.Refusal.TheVariants.{BadFields};
@@ -31,14 +33,14 @@ const HEAD_W_END: usize = tags::ACTION;
 
 // What leads to the entries: what stands before them, the place where they start, and what 268 says. Where there is no
 // group, they start at the end and 268 is 0.
-#[derive(Drop)]
+#[derive(Clone, Copy)]
 pub struct Lead {
     pub top: Top,
     pub at: usize,
     pub count: u64,
 }
 
-#[derive(Drop)]
+#[derive(Clone, Copy)]
 pub enum Topped {
     Is(Top),
     No,

@@ -1,5 +1,7 @@
 // One entry of a snapshot, written into lent bytes at a place (document 01, "Quote and writing"). The answer is the place after
 // it, and a byte past the end is left out, as in crate pen.
+#![tactic(auto)]
+
 ghost use Rattle.std.specs.Prelude.{◌+◌, ◌^◌, ◌≤◌, ◌<◌, eqb};
 ghost use Rattle.text.specs.Text.{Wrote};
 ghost use Rattle.chain.specs.Bytes.{field_bytes, bytes_of};

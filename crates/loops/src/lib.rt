@@ -1,5 +1,7 @@
 // The record of a loop of snapshots, by value (document 02, K1): how far the row of W messages has come, the lowest 369 in it, and the
 // followed instruments that it named.
+#![tactic(auto)]
+
 ghost use Rattle.std.specs.Prelude.{◌≡◌, ◌≤◌, ◌<◌};
 ghost use Rattle.message.specs.Message.{most_number, head_in};
 ghost use Rattle.heading.specs.Marks.{marked};
@@ -10,7 +12,7 @@ use message::Reading;
 
 // loops: 911, or 0 where no loop runs. come: how many W have come. low: the lowest 369 among them. named: one bit an instrument, 1 for
 // one that a W of the loop was for.
-#[derive(Drop)]
+#[derive(Clone, Copy)]
 pub struct Loop {
     pub loops: u64,
     pub come: u64,

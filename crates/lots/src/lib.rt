@@ -1,6 +1,8 @@
 // The desk's library (document 02, K11): what selling a lot down an instrument's bids brings, or buying it up the offers costs, dated by
 // the quote that it rests on, as numbers in room that the caller lends. A refusal writes nothing there. It sees the books by what
 // `backing` promises alone.
+#![tactic(auto)]
+
 ghost use Rattle.std.specs.Prelude.{◌≡◌, ◌≤◌, ◌<◌, length};
 ghost use Rattle.std.proofs.lemmas.List.Edits.{sets};
 ghost use Rattle.moment.specs.Moments.{moments};
@@ -14,7 +16,7 @@ use proceeds::Lot;
 use quote::{Quote, Quoted};
 
 // What a lot brings: the sum, the units that no place took, and the number and the moment of the quote.
-#[derive(Drop)]
+#[derive(Clone, Copy)]
 pub struct Sold {
     pub sum: i64,
     pub left: u64,
@@ -23,7 +25,7 @@ pub struct Sold {
 }
 
 // What a lot of an instrument brings, or why it is refused: as its quote is, its quantity is out of range, or a sum does not fit.
-#[derive(Drop)]
+#[derive(Clone, Copy)]
 pub enum Lotted {
     Is(Sold),
     Not(Quoted),

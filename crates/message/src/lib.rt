@@ -1,5 +1,7 @@
 // What a message says once it is read: its type's part and its numbers, by value (document 01, "Frame" and "Fields"). The reader
 // answers one of these, and writes the entries of the message as a run of numbers; a board takes both.
+#![tactic(auto)]
+
 ghost use Rattle.std.specs.Prelude.{◌≡◌};
 ghost use Rattle.message.specs.Message.{refused, told};
 
@@ -7,7 +9,7 @@ ghost use Rattle.message.specs.Message.{refused, told};
 pub const MOST_NUMBER: u64 = 4294967295;
 
 // Why a message is not read.
-#[derive(Drop)]
+#[derive(Clone, Copy)]
 pub enum Refusal {
     // 11
     BadFrame,
@@ -20,7 +22,7 @@ pub enum Refusal {
 }
 
 // How the reading ended.
-#[derive(Drop)]
+#[derive(Clone, Copy)]
 pub enum Verdict {
     // X, 0, f, y, B: it carries a number and a time, an X entries too
     Numbered,
@@ -31,7 +33,7 @@ pub enum Verdict {
 
 // A message that was read. number is 34 and heard the moment of 52; id, last and loops are 48, 369 and 911 of a W, else 0.
 // count is how many bid, offer and J entries it has.
-#[derive(Drop)]
+#[derive(Clone, Copy)]
 pub struct Reading {
     pub verdict: Verdict,
     pub number: u64,

@@ -1,6 +1,8 @@
 // Dates, times of day and moments (document 01, "Fields": 52, 272 and 273), each held as one number of one range without
 // a hole: a day below calendar::DAYS, a time of day below SPAN, a moment below MOMENTS. A second of 60 has its own place
 // in every minute, so that it is written again as it was read.
+#![tactic(auto)]
+
 ghost use Rattle.std.specs.Prelude.{◌≡◌, ◌+◌, ◌*◌, ◌^◌, ◌≤◌, ◌<◌, pos};
 ghost use Rattle.text.specs.Text.{Wrote};
 ghost use Rattle.calendar.specs.Calendar.{days};

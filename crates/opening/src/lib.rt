@@ -1,4 +1,6 @@
 // Opening (document 01): it doesn't read the old store; it takes the depth kind and 1 to 16 distinct SecurityIDs.
+#![tactic(auto)]
+
 ghost use Rattle.std.specs.Prelude.{◌≡◌, true, ◌++◌, ◌≤◌, length, drop};
 ghost use Rattle.board.specs.Ranges.{all, id_fine};
 ghost use Rattle.board.specs.Sound.{opens};

@@ -1,20 +1,22 @@
 // Order ids, 1 to 16 bytes of 33 to 126 each (document 01, "Fields": 37), held as two numbers. Each is a word of up to 8
 // bytes in a base of 94 digits without a zero, so that the words of up to 8 bytes are the numbers from 1 without a hole,
 // and those of exactly 8 bytes the upper end of them. So a held id is sound by comparisons alone (`id_sound`).
+#![tactic(auto)]
+
 ghost use Rattle.std.specs.Prelude.{◌≡◌, ◌+◌, ◌%◌, ◌^◌, ◌≤◌, ◌<◌, length};
 ghost use Rattle.text.specs.Text.{Wrote};
 ghost use Rattle.orderid.specs.OrderIds.{id_of, id_text, packed_of};
 ghost use Rattle.orderid.specs.Words.{word_of, bytes_in};
 
 // An id that was read, or none.
-#[derive(Drop)]
+#[derive(Clone, Copy)]
 pub enum OrderId {
     Is(u64, u64),
     No,
 }
 
 // A word that was read, or none.
-#[derive(Drop)]
+#[derive(Clone, Copy)]
 enum Word {
     Is(u64),
     No,

@@ -1,5 +1,7 @@
 // One field of a snapshot, written into lent bytes at a place (document 01, "Quote and writing"). Each answer is the place
 // after what was written. A byte past the end is left out, as in crate text.
+#![tactic(auto)]
+
 ghost use Rattle.std.specs.Prelude.{[], ◌∷◌, ◌++◌, ◌+◌, ◌^◌, ◌≤◌, ◌<◌, length, nat_abs};
 ghost use Rattle.text.specs.Text.{fixed, decimal, Wrote};
 ghost use Rattle.price.specs.Price.{top};

@@ -1,5 +1,7 @@
 // A place of a message walked (document 01, "Fields"): its fields one by one, each marked in its slot, up to the tag that ends it
 // or to a field that breaches its rules.
+#![tactic(auto)]
+
 ghost use Rattle.std.specs.Prelude.{true, ◌≡◌, ◌≤◌};
 ghost use Rattle.tags.specs.Slots.{breaks};
 ghost use Rattle.place.specs.Walks.{Walk};
@@ -8,7 +10,7 @@ use chain::Step;
 use tags::Marks;
 
 // A place that was walked: whether its rules hold, where it ends, and what stands in it.
-#[derive(Drop)]
+#[derive(Clone, Copy)]
 pub struct Place {
     pub ok: bool,
     pub at: usize,

@@ -1,5 +1,7 @@
 // An entry of a group by its marks (document 01, "Fields"): what it says in an X, and in a W, where it must stand at the next
 // position of its side.
+#![tactic(auto)]
+
 ghost use Rattle.std.specs.Prelude.{◌≡◌, ◌<◌};
 ghost use Rattle.tags.specs.Slots.{marked};
 ghost use Rattle.entries.specs.Entries.{said};
@@ -23,7 +25,7 @@ pub const ENTRY_END: usize = tags::COUNT;
 
 // How a group is read and what stands before it: the first tag of an entry and the first slot that may stand in one,
 // and the reading's numbers.
-#[derive(Drop)]
+#[derive(Clone, Copy)]
 pub struct Top {
     pub verdict: Verdict,
     pub first: u64,
@@ -36,7 +38,7 @@ pub struct Top {
 }
 
 // The next position of each side in a W.
-#[derive(Drop)]
+#[derive(Clone, Copy)]
 pub struct Next {
     pub bid: usize,
     pub offer: usize,

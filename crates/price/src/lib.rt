@@ -1,5 +1,7 @@
 // Prices: tag 270 read to a signed whole number of hundred-millionths and written again without a needless zero, point or
 // minus (document 01, "Fields" 270 and "Quote and writing"; document 02, K6).
+#![tactic(auto)]
+
 ghost use Rattle.std.specs.Prelude.{◌≡◌, ◌+◌, ◌-◌, ◌*◌, ◌^◌, ◌≤◌, ◌<◌, length, pos, neg_ℤ, nat_abs};
 ghost use Rattle.text.specs.Text.{Wrote};
 ghost use Rattle.price.specs.Price.{most_decimals, unit, top, ahead, amount_of, price_of};
@@ -9,7 +11,7 @@ use digits::Number;
 use holding::{DECIMALS, UNIT, WHOLES};
 
 // A price that was read, or none.
-#[derive(Drop)]
+#[derive(Clone, Copy)]
 pub enum Priced {
     Is(i64),
     No,

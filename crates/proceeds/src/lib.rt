@@ -1,5 +1,7 @@
 // What a quantity brings down a side, place 1 first: the exact sum of price times units, and what is left; or that a sum on the way does
 // not fit a signed 64-bit number (document 02, K11).
+#![tactic(auto)]
+
 ghost use Rattle.std.specs.Prelude.{◌≡◌, min, take};
 ghost use Rattle.book.specs.Canonical.{held_in};
 ghost use Rattle.sums.specs.Sums.{sum_of};
@@ -10,14 +12,14 @@ use book::{Entry, Side};
 use sums::Level;
 
 // The sum, and the units that no place took.
-#[derive(Drop)]
+#[derive(Clone, Copy)]
 pub struct Sale {
     pub sum: i64,
     pub left: u64,
 }
 
 // What a lot brings, or that a sum does not fit.
-#[derive(Drop)]
+#[derive(Clone, Copy)]
 pub enum Lot {
     Is(Sale),
     Over,

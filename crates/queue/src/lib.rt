@@ -1,5 +1,7 @@
 // The queue, in place in the store (document 01, "Numbers, queue and marks"): a message's entries for followed instruments
 // and for all join it; more than 256 let it go, and so does the end of a call after which none waits.
+#![tactic(auto)]
+
 ghost use Rattle.std.specs.Prelude.{◌≡◌, cond, ◌+◌, ◌*◌, ◌≤◌, ◌<◌, ltb, length};
 ghost use Rattle.cells.specs.Runs.{update_size, updates_in};
 ghost use Rattle.store.specs.Layout.{store_size};
@@ -11,7 +13,7 @@ use book::Update;
 use heading::Heading;
 
 // A message that came to the queue: the heading after it, and whether the queue was let go.
-#[derive(Drop)]
+#[derive(Clone, Copy)]
 pub struct Joined {
     pub head: Heading,
     pub over: bool,

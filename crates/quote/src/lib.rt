@@ -1,4 +1,6 @@
 // Dated quotes (document 01, "Quote and writing"): place 1 of each side with H and the heard moment, or why there is none.
+#![tactic(auto)]
+
 ghost use Rattle.std.specs.Prelude.{◌≡◌, ◌+◌, ◌≤◌, ◌<◌, length};
 ghost use Rattle.book.specs.Canonical.{held_in};
 ghost use Rattle.cells.specs.Cells.{side_size, side_at};
@@ -12,14 +14,14 @@ use digits::Number;
 use heading::Heading;
 
 // Place 1 of a side, or that the side is empty.
-#[derive(Drop)]
+#[derive(Clone, Copy)]
 pub enum Top {
     Held(Entry),
     Empty,
 }
 
 // Place 1 of each side, with H and the moment it was heard.
-#[derive(Drop)]
+#[derive(Clone, Copy)]
 pub struct Quote {
     pub number: u64,
     pub heard: u64,
@@ -28,7 +30,7 @@ pub struct Quote {
 }
 
 // A quote, or why there is none: 17, 18, 20, 21, 22, 23, 24. 17 is of a store that is no board; no function here makes it.
-#[derive(Drop)]
+#[derive(Clone, Copy)]
 pub enum Quoted {
     Is(Quote),
     Unsound,

@@ -19,6 +19,8 @@
 //
 // Numbers stand low byte first; a byte that is missing reads as 0. A record that is cut off ends its recording, and so does one
 // of another kind. Every record fits the buffer, whose 65,536 bytes are more than two bytes of length can say.
+#![tactic(auto)]
+
 mod lines;
 mod record;
 

@@ -1,4 +1,6 @@
 // A message that was read, on the channel in the store (document 02, K1): the board takes it, and then the loop of snapshots does.
+#![tactic(auto)]
+
 ghost use Rattle.std.specs.Prelude.{◌≡◌, true, ◌*◌, ◌≤◌, length};
 ghost use Rattle.cells.specs.Runs.{update_size, updates_in};
 ghost use Rattle.message.specs.Message.{most_number, head_in, told, said};
@@ -15,14 +17,14 @@ use loops::Loop;
 use message::{Reading, Verdict};
 
 // The heading that goes with the store, and the record of the loop behind a W.
-#[derive(Drop)]
+#[derive(Clone, Copy)]
 struct Round {
     pub head: Heading,
     pub row: Loop,
 }
 
 // What a message is answered, by document 01's number, and the heading and the record that go with the store it leaves.
-#[derive(Drop)]
+#[derive(Clone, Copy)]
 pub struct Given {
     pub head: Heading,
     pub row: Loop,

@@ -1,5 +1,7 @@
 // Walks a recording (document 02, K12): messages end to end, with holes and bad bytes between them. It is given as pieces, each a
 // message or a run of bytes that were passed over, in the room that the caller lends.
+#![tactic(auto)]
+
 ghost use Rattle.std.specs.Prelude.{◌≡◌, ◌+◌, ◌≤◌, ◌<◌, ◌∷◌, [], length};
 ghost use Rattle.std.proofs.lemmas.List.Edits.{sets};
 ghost use Rattle.stretch.specs.Stretches.{stretch_at};
@@ -21,7 +23,7 @@ const PASSED: u64 = 0;
 
 // A piece of a recording, how many bytes it has, and the length of the message that is taken behind it, or 0: so no message is
 // looked at twice.
-#[derive(Drop)]
+#[derive(Clone, Copy)]
 struct Part {
     kind: u64,
     bytes: usize,
@@ -29,7 +31,7 @@ struct Part {
 }
 
 // Where a walk stopped, and after how many pieces.
-#[derive(Drop)]
+#[derive(Clone, Copy)]
 struct Stop {
     at: usize,
     count: usize,

@@ -1,6 +1,8 @@
 // The scan of a store (document 01, "The store is unsound when .."): tests of its numbers by position, which touch each about
 // once, since every call of the library pays for them. Books are tested by column first (crate sweep), and place by place where that
 // doesn't settle it (crate sides). Crate sound shows that it finds exactly the sound stores.
+#![tactic(auto)]
+
 ghost use Rattle.std.specs.Prelude.{◌≡◌, true, ℕ, ◌+◌, ◌*◌, ◌≤◌, ◌<◌, length, get_or, drop};
 ghost use Rattle.board.specs.Sound.{distinct, among};
 ghost use Rattle.loops.specs.Sound.{sound_loop};

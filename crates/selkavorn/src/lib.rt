@@ -1,5 +1,7 @@
 // The functions that a C program calls; include/selkavorn.h and include/selkavorn_lots.h say what each takes. None of them asks
 // anything of its caller beyond what C asks of a pointer and a length.
+#![tactic(auto)]
+
 ghost use Rattle.opening.specs.Opening.{Opened};
 ghost use Rattle.feed.specs.Feeding.{Fed};
 ghost use Rattle.ask.specs.Ask.{Asked, Stated};

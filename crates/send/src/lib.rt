@@ -1,4 +1,6 @@
 // A book of the store written as a snapshot message into bytes that the caller lends (document 01, "Quote and writing").
+#![tactic(auto)]
+
 ghost use Rattle.std.specs.Prelude.{◌≡◌, true, ◌≤◌, ◌<◌, length};
 ghost use Rattle.moment.specs.Moments.{moments};
 ghost use Rattle.board.specs.Board.{look};

@@ -1,5 +1,7 @@
 // A side's numbers tested one by one (document 01, "The store is unsound when .."): runs of zeros, entries, the places that a side
 // holds and what is behind them. Every call of the library pays for these tests.
+#![tactic(auto)]
+
 ghost use Rattle.std.specs.Prelude.{◌≡◌, ℕ, ◌+◌, ◌*◌, ◌≤◌, ◌<◌, eqb, length};
 ghost use Rattle.sides.specs.Side.{each, all_zero, more_to, entry_scan, side_scan, room_of};
 

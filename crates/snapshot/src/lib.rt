@@ -1,5 +1,7 @@
 // The fields of a snapshot from 35 up to 10, written into lent bytes (document 01, "Quote and writing"): what stands before the
 // entries, the bids, the offers.
+#![tactic(auto)]
+
 ghost use Rattle.std.specs.Prelude.{◌+◌, ◌^◌, ◌≤◌, ◌<◌, length, take};
 ghost use Rattle.text.specs.Text.{Wrote};
 ghost use Rattle.moment.specs.Moments.{moments};

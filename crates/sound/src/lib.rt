@@ -1,4 +1,6 @@
 // Whether a store is sound (document 01, "The store is unsound when .."): it holds exactly the numbers of a sound board.
+#![tactic(auto)]
+
 ghost use Rattle.std.specs.Prelude.{◌≡◌};
 ghost use Rattle.sound.specs.Sound.{sound};
 

@@ -1,5 +1,7 @@
 // The lent store: where everything stands in it (document 01, "All books live in one lent run of 64-bit numbers"), its
 // heading and its loop's record read and saved, an instrument found, a gap.
+#![tactic(auto)]
+
 ghost use Rattle.std.specs.Prelude.{◌≡◌, ◌≤◌, ◌<◌, length, get_or};
 ghost use Rattle.std.proofs.lemmas.List.Edits.{sets};
 ghost use Rattle.board.specs.Board.{look};
@@ -105,7 +107,7 @@ pub const NOT_FOLLOWED: u64 = 20;
 pub const WAITING: u64 = 21;
 
 // What a call answers, by document 01's number, and the heading that goes with the store it leaves.
-#[derive(Drop)]
+#[derive(Clone, Copy)]
 pub struct Fed {
     pub head: Heading,
     pub answer: u64,

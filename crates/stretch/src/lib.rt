@@ -1,5 +1,7 @@
 // Where messages stand in a recording (document 02, K12). A message is taken at a place exactly if 11 and 12 of document 01 would not
 // refuse some stretch that starts there; the stretch is the one that tag 9 names. Nothing is copied: an answer is a place or a length.
+#![tactic(auto)]
+
 ghost use Rattle.std.specs.Prelude.{◌≡◌, ◌≤◌, length};
 ghost use Rattle.frame.specs.Frames.{frame_of};
 ghost use Rattle.stretch.specs.Stretches.{passes, named_of, stretch_of, stretch_at};
@@ -13,7 +15,7 @@ use frame::Framed;
 const HEAD_BYTES: usize = frame::BEGIN_BYTES + 8;
 
 // Where a run of passed bytes ends, and the length of the message that is taken there, or 0.
-#[derive(Drop)]
+#[derive(Clone, Copy)]
 pub struct Gap {
     pub end: usize,
     pub next: usize,

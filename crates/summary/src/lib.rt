@@ -1,5 +1,7 @@
 // What a store has counted and which of its instruments wait, as numbers in room that the caller lends (document 01, "Numbers, queue
 // and marks"). A refusal writes nothing there.
+#![tactic(auto)]
+
 ghost use Rattle.std.specs.Prelude.{◌≡◌, true, ◌≤◌, length};
 ghost use Rattle.std.proofs.lemmas.List.Edits.{sets};
 ghost use Rattle.board.specs.Sound.{heard_fine};

@@ -1,19 +1,21 @@
 // Exact sums of price times units in a signed number of 64 bits, and that a sum does not fit (document 02, K11). A sum is worked on as
 // its level, the sum plus 2^63, an unsigned number: a step up or down is allowed exactly if it is at most the room that is left there, and
 // a division tells that before anything is multiplied.
+#![tactic(auto)]
+
 ghost use Rattle.std.specs.Prelude.{◌≡◌, pos, nat_abs, ◌+ℤ◌, ◌*ℤ◌};
 ghost use Rattle.sums.specs.Sums.{sum_of, level_of};
 ghost use Rattle.sums.specs.Products.{product_of};
 
 // A sum as its level, or that it does not fit.
-#[derive(Drop)]
+#[derive(Clone, Copy)]
 pub enum Level {
     At(u64),
     Out,
 }
 
 // A product that is at most a limit, or that it is above.
-#[derive(Drop)]
+#[derive(Clone, Copy)]
 enum Product {
     Is(u64),
     Above,

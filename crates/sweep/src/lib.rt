@@ -1,5 +1,7 @@
 // The sides of a store tested by column (document 01, "The store is unsound when .."): many numbers of one kind are joined by `|` and
 // compared once. Where that passes it settles every place; where it doesn't it says nothing, and crate scan tests place by place.
+#![tactic(auto)]
+
 ghost use Rattle.std.specs.Prelude.{◌≡◌, ℕ, ◌+◌, ◌-◌, ◌*◌, ◌≤◌, true, false, ◌&&◌, length, if◌then◌else◌, ◌==◌, nat_lt};
 ghost use Rattle.store.specs.Layout.{store_size, side_spare};
 ghost use Rattle.sides.specs.Side.{all_zero};
@@ -11,7 +13,7 @@ const FOUR: usize = 20;
 
 // Many places by column: each column's numbers, less the least that they may be, joined by `|`. `even` and `odd` have the second words
 // that stand beside a first one of fewer than 8 bytes. In this order the compiler takes neighbours two at a time.
-#[derive(Drop)]
+#[derive(Clone, Copy)]
 struct Columns {
     size: u64,
     by: u64,
@@ -24,7 +26,7 @@ struct Columns {
 
 // How order ids are taken: `by` is at least `low`, and `more` at most `top`. Where some ids are shorter than 8 bytes and others longer,
 // they are mixed, and the two are held against each other.
-#[derive(Drop)]
+#[derive(Clone, Copy)]
 struct Way {
     low: u64,
     top: u64,
@@ -32,7 +34,7 @@ struct Way {
 }
 
 // The columns of the sides up to the index `upto`, and what else must be 0 in them.
-#[derive(Drop)]
+#[derive(Clone, Copy)]
 struct Swept {
     columns: Columns,
     rest: u64,

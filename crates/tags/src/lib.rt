@@ -1,6 +1,8 @@
 // Where tags stand in a message (document 01, "Fields"). A place of the message is a run of fields: those before 268, or
 // those of an entry. Of the tags that are named only some may stand in it, and none twice. What stands in it is marked
 // by the slot of its tag, as a part of the lent bytes, and nothing is read until it is needed.
+#![tactic(auto)]
+
 ghost use Rattle.std.specs.Prelude.{◌≡◌, ◌≤◌, ◌<◌, get_or};
 ghost use Rattle.tags.specs.Slots.{slot_of, no_marks, text_at, strays};
 
@@ -44,7 +46,7 @@ pub const COUNT: usize = 20;
 pub const NAMED: usize = 21;
 
 // The values of a place by slot: the bytes from..to, where a to of 0 says that the tag does not stand there.
-#[derive(Drop)]
+#[derive(Clone, Copy)]
 pub struct Marks {
     pub from: [usize; 22],
     pub to: [usize; 22],

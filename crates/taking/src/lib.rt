@@ -1,5 +1,7 @@
 // A snapshot, in place on the store (document 01, "Numbers, queue and marks"): refused before anything is written, or its
 // book is set, queued entries for the instrument and for all with numbers above S are applied, and it is Live.
+#![tactic(auto)]
+
 ghost use Rattle.std.specs.Prelude.{◌≡◌, ◌+◌, ◌*◌, ◌≤◌, ◌<◌, length};
 ghost use Rattle.book.specs.Canonical.{side_of};
 ghost use Rattle.cells.specs.Cells.{tab};

@@ -1,5 +1,7 @@
 // The terms of a snapshot, from numbers alone (document 01, "Numbers, queue and marks"): why it is refused before it is looked at, and
 // which queued entries are applied after it.
+#![tactic(auto)]
+
 ghost use Rattle.std.specs.Prelude.{◌≡◌, ◌≤◌};
 ghost use Rattle.terms.specs.Terms.{due, refusal_of};
 

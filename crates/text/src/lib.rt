@@ -1,5 +1,7 @@
 // Bytes and numbers written into a lent slice at a place. A byte past the end is left out, so that a run over too little
 // room still counts bytes: the length of a message is known before any of it is written.
+#![tactic(auto)]
+
 ghost use Rattle.std.specs.Prelude.{◌≡◌, [], ◌∷◌, ◌+◌, ◌^◌, ◌≤◌, ◌<◌, length};
 ghost use Rattle.text.specs.Text.{fixed, width_of, decimal, Wrote};
 

@@ -1,5 +1,7 @@
 // The values of tags (document 01, "Fields", first paragraph), read from their marks: the sort of an entry, its instrument, and
 // what a place of a book holds.
+#![tactic(auto)]
+
 ghost use Rattle.std.specs.Prelude.{◌≡◌};
 ghost use Rattle.tags.specs.Slots.{marked};
 ghost use Rattle.values.specs.Values.{bvmf, instrument_of, sort_of, by_of, moment_in, values_of, valued};
@@ -11,7 +13,7 @@ use price::Priced;
 use tags::Marks;
 
 // The values of a place, or none.
-#[derive(Drop)]
+#[derive(Clone, Copy)]
 pub enum Valued {
     Is(Entry),
     No,

@@ -1,5 +1,7 @@
 // A book written as a snapshot message (document 01, "Quote and writing"). A dry run of the same body over one byte gives
 // the length, so that 9 and the refusal 25 are known before anything is written.
+#![tactic(auto)]
+
 ghost use Rattle.std.specs.Prelude.{◌≡◌, ◌^◌, ◌≤◌, ◌<◌};
 ghost use Rattle.text.specs.Text.{Wrote};
 ghost use Rattle.orderid.specs.OrderIds.{is_id};
@@ -11,7 +13,7 @@ use book::Book;
 use orderid::OrderId;
 
 // What a writing answers: 0 and the message's length, or 25 and 0.
-#[derive(Drop)]
+#[derive(Clone, Copy)]
 pub struct Written {
     pub answer: u64,
     pub bytes: usize,
