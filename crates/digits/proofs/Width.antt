@@ -1,5 +1,5 @@
 -- The width of digits read is one fact: what w digits write is below ten to the w. Assumes nothing.
-use Rattle.std.proofs.Common.{◌≡◌, ℕ, zero, suc, ◌+◌, ◌-◌, ◌*◌, ◌^◌, ◌<◌, ◌≤◌, Bool, true, false, cond, ◌&&◌, eqb, leb, List, [], ◌∷◌, length, get_or, refl, add-zero, add-suc, suc-add, pow-suc, zero-add, add-one, arith, pow-add, leb-true}
+use Rattle.std.proofs.Common.{◌≡◌, ℕ, suc, ◌+◌, ◌-◌, ◌*◌, ◌^◌, ◌<◌, ◌≤◌, Bool, true, false, cond, ◌&&◌, eqb, leb, List, [], ◌∷◌, length, get_or, refl, add-zero, add-suc, suc-add, pow-suc, zero-add, add-one, arith, pow-add, leb-true}
 use mathlib.Core.Bool.{false≢true}
 use native.Mathlib.Nat.{pow-le-pow_right}
 use Rattle.digits.specs.Digits.{is_digit, all_digits, value, digits_of, whole_of}

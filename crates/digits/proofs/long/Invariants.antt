@@ -1,0 +1,11 @@
+-- `digits::long` meets its contract: the whole answer is what is left gives, after the digits that wrote v. Assumes nothing.
+use Rattle.std.proofs.Common.{◌≡◌, ◌-◌, ◌%◌, ◌^◌, ◌<◌, ◌≤◌, drop}
+use Rattle.digits.specs.Digits.{digits_of}
+use Rattle.digits.proofs.Steps.{rest}
+use Rattle.digits.proofs.long.Given as goal
+
+abbrev pub invariant-loop-i : goal.invariant-loop-i
+invariant-loop-i l = (l.i ≤ l.n) × ((l.n - l.i) % 4 ≡ 0) × (l.v < 10 ^ l.i) × (digits_of 18 l.text ≡ rest l.v (drop l.i l.text))
+
+abbrev pub decreases-loop-i : goal.decreases-loop-i
+decreases-loop-i l = l.n - l.i
