@@ -8,21 +8,10 @@ use lib.Dec.{lit<}
 use Prim.Native.Nat.{◌-◌}
 use Rattle.heading.specs.Marks.{without_mark}
 use Rattle.heading.specs.Headings.{marks_now}
-use borrow.Author.Rules.{rules}
-use Rattle.heading.proofs.Heading.live.Statement.{statement}
-use Rattle.heading.proofs.Heading.live.Tie as tie
+use Rattle.heading.proofs.Heading.live.Goals as goal
 
-cast-h : tie.Need-overflow-cast-h
-cast-h c = search rules
-
-shl-h : tie.Need-overflow-shl-h
-shl-h c = search rules
-
-returns : tie.Need-returns
+pub returns : goal.returns
 unfolding without_mark
 returns c =
-    let a = c.before.args in
+    let a = c.args in
     ap (λ (x : ℕ). marks_now a.self (bit_and a.self.marks (65535 - x))) (shl_exact 1 a.i 16 (lit< tt) (omega arith) ∙ one-mul (2 ^ a.i))
-
-pub live-spec : {M : Type 1} → statement M
-live-spec = tie.close (tie.spec cast-h shl-h returns)
