@@ -9,7 +9,7 @@ use lib.Dec.{leb, eqb}
 use lib.ListN.{length, get_or}
 use borrow.Author.Tests.{leb-true, le-leb, ne_eqb}
 use Rattle.book.proofs.Tests.{by-test}
-use Rattle.message.specs.Message.{Message, Head, most_number, numbered, snapshot, refused}
+use Rattle.message.specs.Message.{Head, most_number, numbered, snapshot, refused}
 use Rattle.heading.specs.Marks.{marked}
 use Rattle.heading.proofs.Bits.{mark-own}
 use Rattle.board.specs.Board.{Inst, Queued, Board, no_inst, look, at, with_insts}

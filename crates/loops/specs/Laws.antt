@@ -12,7 +12,7 @@ use Rattle.board.specs.Ranges.{within, message_fine}
 use Rattle.board.specs.Sound.{Sound}
 use Rattle.loops.specs.declared.Loop.{Loop}
 use Rattle.loops.specs.Ending.{ended}
-use Rattle.loops.specs.Channel.{Channel, channel, joined_by, rounded, given}
+use Rattle.loops.specs.Channel.{Channel, joined_by, rounded, given}
 use Rattle.loops.specs.Calls.{calls, opened_channel}
 use Rattle.loops.specs.Sound.{SoundChannel}
 use Rattle.loops.specs.Rows.{came_in, loop_after}
