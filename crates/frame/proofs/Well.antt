@@ -5,7 +5,7 @@ use lib.Seq.{take-append_seam}
 use Rattle.digits.specs.Digits.{whole_of}
 use Rattle.digits.specs.declared.Number.{Number}
 use Rattle.digits.proofs.Width.{both}
-use Rattle.text.specs.Text.{fixed, width_to, width_of, decimal, free}
+use Rattle.text.specs.Text.{fixed, width_to, width_of, decimal}
 use Rattle.text.proofs.Written.{whole_back, read-fixed, length-fixed, digits-fixed, digits_decimal, length-decimal, width-pos}
 use Rattle.chain.specs.Fields.{Field, field, fields_of}
 use Rattle.chain.specs.Bytes.{field_bytes, bytes_of, fair, all_fair}
