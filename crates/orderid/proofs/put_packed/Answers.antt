@@ -22,7 +22,7 @@ loop-v-preserved c =
     let z : 0 < k = bytes-any k l.v t l.invariant.3 in
     let q : k ≡ j + 1 = omega (arith, w.next) in
     let m = rw (bytes-more k j l.v t q, ← c.low_byte.ensures) at l.invariant.4 in
-    (omega (arith, w.next), omega (arith, w.next), c.put-a.auto.0 ∙ l.invariant.2, bytes-less k j l.v q l.invariant.3, left-more m w)
+    (omega (arith, w.next), omega (arith, w.next), c.put-a.auto.out ∙ l.invariant.2, bytes-less k j l.v q l.invariant.3, left-more m w)
 
 pub returns : goal.returns
 returns c =

@@ -1,5 +1,4 @@
 -- `price::find` meets its contract: where x stands, counted from the place reached, stays the same. Assumes nothing.
-use Prim.Native.Nat.{◌-◌}
 use mathlib.Core.Path.{◌≡◌, sym, ◌∙◌}
 use native.Mathlib.Nat.{zero-add}
 use native.Mathlib.Omega.{arith}

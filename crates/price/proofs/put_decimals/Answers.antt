@@ -1,6 +1,6 @@
 -- `price::put_decimals` meets its contract: the zeros at the end are dropped one a turn. Assumes nothing.
 use mathlib.Core.Path.{◌≡◌, refl, ◌∙◌}
-use Prim.Native.Nat.{◌-◌, ◌<◌}
+use Prim.Native.Nat.{◌<◌}
 use native.Mathlib.Omega.{arith}
 use Rattle.text.specs.Text.{fixed}
 use Rattle.price.specs.Price.{most_decimals}

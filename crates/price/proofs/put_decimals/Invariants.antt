@@ -1,6 +1,6 @@
 -- `price::put_decimals` meets its contract: the zeros at the end are dropped one a turn. Assumes nothing.
 use mathlib.Core.Path.{◌≡◌}
-use Prim.Native.Nat.{◌-◌, ◌≤◌, ◌<◌, ◌^◌}
+use Prim.Native.Nat.{◌≤◌, ◌<◌, ◌^◌}
 use Rattle.price.specs.Price.{most_decimals}
 use Rattle.price.specs.PriceText.{decimals}
 use Rattle.price.proofs.put_decimals.Given as goal

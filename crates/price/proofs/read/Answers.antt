@@ -25,7 +25,7 @@ pub returns-then-text-eq45 : goal.returns-then-text-eq45
 returns-then-text-eq45 c =
     let s = c.args.text.now in
     let d : c.amount.result ≡ amount_of (drop 1 s) = rw (tail s 1) at c.amount.ensures in
-    ap Priced.Is (to_z-of_z {w = w64} (record { sfits = c.below.type-inv }) ∙ c.below.ensures)
+    ap Priced.Is (to_z-of_z {w = w64} (record { sfits = c.below.type_inv }) ∙ c.below.ensures)
     ∙ sym (price-minus s (omega arith) c.if-text-eq45.true ∙ ap minus (sym d ∙ c.in-Is.is))
 
 pub returns-in_default-amount : goal.returns-in_default-amount
@@ -36,5 +36,5 @@ above-requires c = omega (arith, amount-small _ _ (sym c.in-Is-amount.ensures))
 
 pub returns : goal.returns
 returns c =
-    ap Priced.Is (to_z-of_z {w = w64} (record { sfits = c.above.type-inv }) ∙ c.above.ensures)
+    ap Priced.Is (to_z-of_z {w = w64} (record { sfits = c.above.type_inv }) ∙ c.above.ensures)
     ∙ sym (price-plus c.args.text.now (omega arith) c.if-text-eq45.false ∙ ap plus (sym c.in-Is-amount.ensures))

@@ -1,5 +1,5 @@
 -- `price::scale` meets its contract, by its nine cases. Assumes nothing.
-use Prim.Native.Nat.{ℕ, ◌-◌, ◌^◌, ◌≤◌}
+use Prim.Native.Nat.{ℕ, ◌-◌, ◌^◌}
 use mathlib.Core.Path.{◌≡◌, sym, ap}
 use native.Mathlib.Omega.{arith}
 use Rattle.price.specs.Price.{most_decimals}
@@ -7,12 +7,6 @@ use Rattle.price.proofs.scale.Goals as goal
 
 case : {k j : ℕ} → k ≡ j → 10 ^ j ≡ 10 ^ k
 case e = sym (ap (λ (k : ℕ). 10 ^ k) e)
-
-lows : (k : ℕ) → (k ≡ 0 → ⊥) → (k ≡ 1 → ⊥) → (k ≡ 2 → ⊥) → (k ≡ 3 → ⊥) → 4 ≤ k
-lows k a b c d = omega arith
-
-last : (k : ℕ) → 4 ≤ k → k ≤ 8 → (k ≡ 4 → ⊥) → (k ≡ 5 → ⊥) → (k ≡ 6 → ⊥) → (k ≡ 7 → ⊥) → k ≡ 8
-last k h l a b c d = omega arith
 
 pub returns-in-0 : goal.returns-in-0
 returns-in-0 c = case c.in-0.is
@@ -40,8 +34,6 @@ returns-in-7 c = case c.in-7.is
 
 pub returns-in_default : goal.returns-in_default
 returns-in_default c =
-    let r = c.in_default.in_default-own.rest in
     let k = most_decimals - c.args.n in
-    let l = lows k r.0.0.0.0.0.0.0.1 r.0.0.0.0.0.0.1 r.0.0.0.0.0.1 r.0.0.0.0.1 in
-    let q : k ≡ 8 = last k l (omega arith) r.0.0.0.1 r.0.0.1 r.0.1 r.1 in
+    let q : k ≡ 8 = omega arith in
     case q

@@ -8,4 +8,4 @@ use Rattle.proceeds.proofs.ended.Goals as goal
 
 pub returns : goal.returns
 returns c =
-    ap (λ (z : ℤ). Lot.Is (record { sum = z; left = c.args.left })) (to_z-of_z {w = w64} (record { sfits = c.sum_at-sum.type-inv }) ∙ c.sum_at-sum.ensures)
+    ap (λ (z : ℤ). Lot.Is (record { sum = z; left = c.args.left })) (to_z-of_z {w = w64} (record { sfits = c.sum_at-sum.type_inv }) ∙ c.sum_at-sum.ensures)
