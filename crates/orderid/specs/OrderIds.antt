@@ -1,5 +1,5 @@
 -- Order ids (document 01, "Fields": 37), held as two numbers. Assumes nothing.
-use Rattle.std.specs.Prelude.{ℕ, zero, suc, ◌+◌, ◌-◌, ◌*◌, ◌/◌, ◌%◌, List, [], ◌∷◌, ◌++◌, Bool, true, cond, ◌&&◌, ◌||◌, length, take, drop, leb, eqb}
+use Rattle.std.specs.Prelude.{ℕ, zero, suc, ◌+◌, ◌-◌, ◌*◌, ◌/◌, ◌%◌, List, [], ◌∷◌, ◌++◌, Bool, true, cond, ◌&&◌, length, take, drop, leb, eqb}
 use Rattle.orderid.specs.declared.OrderId.{OrderId}
 use Rattle.orderid.specs.declared.OrderId.TheVariants.{Is, No}
 pub use Rattle.holding.specs.OrderIds.{top, full, id_sound}

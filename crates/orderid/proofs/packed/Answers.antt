@@ -1,5 +1,4 @@
 -- A turn packs the last byte of the word that is left below those packed before. Assumes nothing.
-use Prim.Native.Nat.{◌-◌}
 use Rattle.orderid.proofs.Packs.{pack-all, pack-none, pack-over, pack-more, pack-lt, pack-small}
 use mathlib.Core.Path.{◌≡◌, sym, ◌∙◌}
 use native.Mathlib.Omega.{arith}

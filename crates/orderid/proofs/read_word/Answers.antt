@@ -1,5 +1,4 @@
 -- A turn takes one byte more of the word, which stays in the range of so many bytes. Assumes nothing.
-use Prim.Native.Nat.{◌-◌}
 use Rattle.orderid.proofs.Steps.{low, high, more, done}
 use Rattle.orderid.proofs.Words.{top_of, top-step, top_small}
 use Rattle.orderid.specs.Words.{word_of}
