@@ -10,7 +10,7 @@ use lib.ListN.{length, drop, length-append, length-drop, drop_of_length-le}
 use lib.Seq.{take-append-le, drop-append-le}
 use Rattle.stretch.specs.Stretches.{Taken, longest, stretch_of, stretch_at}
 use Rattle.stretch.specs.Windows.{beginning, agrees, decided}
-use Rattle.stretch.specs.Laws.{Only, OneStretch, FoundIsTaken, Kept, MoreKeeps}
+use Rattle.stretch.specs.Laws.{OneStretch, FoundIsTaken, Kept, MoreKeeps}
 use Rattle.stretch.proofs.Stretching.{taken-named, one-stretch, taken-stretch, stretch-taken, none-taken, too_short}
 
 pub only_one : OneStretch

@@ -23,7 +23,7 @@ use Rattle.frame.specs.declared.Framed.{Framed}
 use Rattle.frame.proofs.Well.{Well, tags, nine-fair, whole_is, whole_length, inner-length, count-back}
 use Rattle.frame.proofs.Framing.{Held, frame-cases}
 use Rattle.stretch.specs.Stretches.{passes, Taken, longest, named_of, if_taken, stretch_of, stretch_at}
-use Rattle.stretch.specs.Windows.{beginning, agrees}
+use Rattle.stretch.specs.Windows.{beginning}
 
 -- ---- what passes holds but for its type
 good-held : (t : List ℕ) → passes (frame_of t) ≡ true → Held t
