@@ -6,8 +6,8 @@ use Prim.Native.Nat.{ℕ, suc, ◌+◌, ◌-◌, ◌≤◌, ◌<◌}
 use native.Mathlib.Omega.{arith}
 use native.Mathlib.Nat.{add-zero}
 use borrow.Author.Tests.{le-leb, lt-leb, le-ltb}
-use lib.ListN.{length, set, take, drop, length-drop}
-use lib.Seq.{sets, length-sets, set_comm, take_all}
+use lib.ListN.{length, set, drop}
+use lib.Seq.{sets, length-sets, set_comm}
 use Rattle.stretch.specs.Stretches.{stretch_at}
 use Rattle.stretch.specs.Runs.{run_of, Ends}
 use Rattle.salvage.specs.Pieces.{Piece, message, passed, pieces}

@@ -1,6 +1,6 @@
 -- Walks in any rooms, one after another, give what one walk would. Assumes nothing.
 use mathlib.Core.Path.{◌≡◌, refl, sym, ap, ◌∙◌}
-use mathlib.Core.List.{List, [], ◌∷◌, ◌++◌, append-nil}
+use mathlib.Core.List.{List, [], ◌∷◌, ◌++◌}
 use mathlib.Core.Bool.{Bool, true, false, cond, not, ◌&&◌}
 use Prim.Native.Nat.{ℕ, ◌+◌, ◌-◌, ◌≤◌, ◌<◌}
 use native.Mathlib.Omega.{arith}
@@ -10,8 +10,8 @@ use lib.Dec.{leb}
 use lib.ListN.{length, drop}
 use Rattle.digits.proofs.Width.{both}
 use Rattle.salvage.specs.Pieces.{Piece, message, passed, length_of, Walk, done, one, run, pieces, is_run, apart}
-use Rattle.salvage.specs.Rooms.{fitting, spanned, given, go_on, walks, reached, link, join, wide}
-use Rattle.salvage.specs.Laws.{Step, WalkGetsOn, EndIsReached, WalksJoined}
+use Rattle.salvage.specs.Rooms.{fitting, spanned, given, go_on, reached, link, join, wide}
+use Rattle.salvage.specs.Laws.{WalkGetsOn, EndIsReached, WalksJoined}
 use Rattle.salvage.proofs.Walking.{taken-some, walk_is, walk-only, walk-apart}
 use Rattle.salvage.proofs.Stepping.{pieces_end}
 

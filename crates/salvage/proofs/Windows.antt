@@ -18,7 +18,7 @@ use Rattle.stretch.proofs.Laws.{more-keeps}
 use Rattle.salvage.specs.Pieces.{Piece, message, passed, Walk, done, one, run, pieces}
 use Rattle.salvage.specs.Rooms.{spanned, link, join}
 use Rattle.salvage.specs.Windows.{leading, sure}
-use Rattle.salvage.specs.Laws.{Window, WindowsJoined}
+use Rattle.salvage.specs.Laws.{WindowsJoined}
 use Rattle.salvage.proofs.Stepping.{pieces_end, pieces-message, pieces-run}
 use Rattle.salvage.proofs.Walking.{taken-some, walk_is, run-from}
 
