@@ -1,6 +1,5 @@
 -- `down` meets its contract: the whole lot is what the places that are left make of the present sum. Assumes nothing.
 use mathlib.Core.Path.{◌≡◌, sym, ◌∙◌}
-use Prim.Native.Nat.{◌-◌}
 use native.Mathlib.Omega.{arith}
 use lib.ListN.{take, drop, length-take}
 use mir.Syntax.{w64}
@@ -32,24 +31,22 @@ returns-then-left-eq0 c =
 
 pub returns-in_default : goal.returns-in_default
 returns-in_default c =
-    let p = to_z-of_z {w = w64} (record { sfits = omega arith }) in
     let l = c.loop-i in
     let x = c.args in
     let u = c.least-units.ensures in
     let e = sym c.in_default.ensures in
-    sym (l.invariant.4 ∙ turn-out x.places x.held l.i l.level l.left _ (omega arith) (omega arith) _ _ p u e)
+    sym (l.invariant.4 ∙ turn-out x.places x.held l.i l.level l.left _ (omega arith) (omega arith) _ _ (to_z-of_z {w = w64} (record { sfits = omega arith })) u e)
 
 pub overflow_sub-left : goal.overflow_sub-left
 overflow_sub-left c = omega (arith, c.least-units.ensures)
 
 pub loop-i-preserved : goal.loop-i-preserved
 loop-i-preserved c =
-    let p = to_z-of_z {w = w64} (record { sfits = omega arith }) in
     let l = c.loop-i in
     let x = c.args in
     let u = c.least-units.ensures in
     let e = sym c.in-At.ensures in
-    let t = turn_on x.places x.held l.i l.level l.left _ (omega arith) (omega arith) _ _ p u c.in-At.next e in
+    let t = turn_on x.places x.held l.i l.level l.left _ (omega arith) (omega arith) _ _ (to_z-of_z {w = w64} (record { sfits = omega arith })) u c.in-At.next e in
     (t.0, omega arith, omega arith, l.invariant.3, l.invariant.4 ∙ t.1)
 
 pub returns : goal.returns
