@@ -17,7 +17,7 @@ use Rattle.book.specs.Canonical.{KeptBook, lists_in}
 use borrow.Author.Tests.{eqb-true}
 use Rattle.book.proofs.Untouched.{a-bid, an-offer}
 use Rattle.book.proofs.Keeping.{kept-side, kept-apply}
-use Rattle.cells.specs.Cells.{zeros, side_at, side_words, side_size}
+use Rattle.cells.specs.Cells.{side_at, side_words, side_size}
 use Rattle.cells.proofs.Tables.{in-zeros}
 use Rattle.cells.proofs.Windows.{length-side-words}
 use Rattle.board.specs.Board.{Inst, at, put}
