@@ -10,7 +10,7 @@ use borrow.Author.Tests.{ltb-false}
 use lib.ListN.{length, length-append}
 use lib.Seq.{sets}
 use Rattle.book.specs.declared.Update.{Update}
-use Rattle.cells.specs.Cells.{tab, zeros, queued_words}
+use Rattle.cells.specs.Cells.{tab, queued_words}
 use Rattle.cells.proofs.Tables.{tab-snoc}
 use Rattle.heading.specs.Headings.{queued_more}
 use Rattle.board.specs.Board.{let_go as let_go_b}

@@ -2,7 +2,7 @@
 use mathlib.Core.Path.{◌≡◌, refl, sym, ◌∙◌}
 use mathlib.Core.Bool.{Bool, true, false, cond}
 use mathlib.Core.List.{List, [], ◌∷◌}
-use mathlib.Core.Logic.{◌⊎◌, inl, ⊎_elim}
+use mathlib.Core.Logic.{inl, ⊎_elim}
 use Prim.Native.Nat.{ℕ, ◌+◌, ◌≤◌, ◌<◌}
 use native.Mathlib.Nat.{add-zero}
 use native.Mathlib.Omega.{arith}
@@ -11,7 +11,7 @@ use borrow.Author.Tests.{ltb-false, eqb-false, ne_eqb}
 use lib.Seq.{sets}
 use Rattle.book.specs.declared.Update.{Update}
 use Rattle.book.proofs.Tests.{by-test}
-use Rattle.cells.specs.Cells.{zeros, queued_words}
+use Rattle.cells.specs.Cells.{queued_words}
 use Rattle.cells.proofs.Tables.{in-zeros}
 use Rattle.heading.specs.Headings.{queued_more}
 use Rattle.store.specs.Layout.{slot_of}
