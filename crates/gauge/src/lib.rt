@@ -1,5 +1,6 @@
-// The reader of digits by itself, for the bench to measure, beside the one before it. In the archive that users link, fields that may
-// have more than three digits call one function of it, and the others have its loop in them; this crate is not in that archive.
+// The reader of digits by itself, for the bench to measure (crate gauge_c), beside the one before it. In the archive that users link,
+// fields that may have more than three digits call one function of it, and the others have its loop in them; this crate is not in that
+// archive.
 #![tactic(auto)]
 
 ghost use Rattle.std.specs.Prelude.{◌≡◌};
@@ -14,8 +15,7 @@ const WIDTH: usize = 18;
 const NONE: u64 = 18446744073709551615;
 
 // The number that 1 to 18 digits write, or NONE where they are none.
-#[unsafe(no_mangle)]
-pub extern "C" fn selkavorn_gauge_digits(text: &[u8]) -> u64
+pub fn selkavorn_gauge_digits(text: &[u8]) -> u64
     ensures { result ≡ gauge_of text.now }
 {
     let Number::Is(v) = digits::digits(text, WIDTH) else {
@@ -55,8 +55,7 @@ fn by_one(text: &[u8], width: usize) -> Number
 }
 
 // The same number, read so: what the reader is held to.
-#[unsafe(no_mangle)]
-pub extern "C" fn selkavorn_gauge_by_one(text: &[u8]) -> u64
+pub fn selkavorn_gauge_by_one(text: &[u8]) -> u64
     ensures { result ≡ gauge_of text.now }
 {
     let Number::Is(v) = by_one(text, WIDTH) else {

@@ -1,69 +1,73 @@
-// Lines of answers on standard output.
+// Lines of answers, as they are written.
 use crate::record;
-use libc::STDOUT_FILENO;
+use std::io;
+use std::io::Write;
 
-fn end() {
-    io::write_all(STDOUT_FILENO, b"\n");
+fn end(out: &mut impl Write) -> io::Result<()> {
+    out.write_all(b"\n")
 }
 
 // A space and a number.
-fn number(n: u64) {
-    io::write_all(STDOUT_FILENO, b" ");
-    io::print_decimal(STDOUT_FILENO, n);
+fn number(out: &mut impl Write, n: u64) -> io::Result<()> {
+    write!(out, " {n}")
 }
 
 // A space and a number for each.
-fn numbers(ns: &[u64]) {
-    let mut i = 0usize;
-    while i < ns.len() {
-        number(ns[i]);
-        i += 1;
+fn numbers(out: &mut impl Write, ns: &[u64]) -> io::Result<()> {
+    for n in ns {
+        number(out, *n)?;
     }
+    Ok(())
 }
 
 // The start of a call's line: its word and the answer.
-fn answered(word: &[u8], answer: u64) {
-    io::write_all(STDOUT_FILENO, word);
-    number(answer);
+fn answered(out: &mut impl Write, word: &[u8], answer: u64) -> io::Result<()> {
+    out.write_all(word)?;
+    number(out, answer)
 }
 
 // The line before a recording.
-pub(crate) fn title(name: &[u8]) {
-    io::write_all(STDOUT_FILENO, b"recording ");
-    io::write_all(STDOUT_FILENO, name);
-    end();
+pub(crate) fn title(out: &mut impl Write, name: &[u8]) -> io::Result<()> {
+    out.write_all(b"recording ")?;
+    out.write_all(name)?;
+    end(out)
 }
 
 // The line of an opening.
-pub(crate) fn opened(answer: u64) {
-    answered(b"open", answer);
-    end();
+pub(crate) fn opened(out: &mut impl Write, answer: u64) -> io::Result<()> {
+    answered(out, b"open", answer)?;
+    end(out)
 }
 
 // The line of a feed: the answer and how many wait.
-pub(crate) fn fed(answer: u64, waiting: u64) {
-    answered(b"feed", answer);
-    number(waiting);
-    end();
+pub(crate) fn fed(out: &mut impl Write, answer: u64, waiting: u64) -> io::Result<()> {
+    answered(out, b"feed", answer)?;
+    number(out, waiting)?;
+    end(out)
 }
 
 // The line of a quote, a state or a summary: after a 0 its numbers.
-pub(crate) fn told(word: &[u8], answer: u64, room: &[u64]) {
-    answered(word, answer);
+pub(crate) fn told(out: &mut impl Write, word: &[u8], answer: u64, room: &[u64]) -> io::Result<()> {
+    answered(out, word, answer)?;
     if answer == 0 {
-        numbers(room);
+        numbers(out, room)?;
     }
-    end();
+    end(out)
 }
 
 // The line of a writing: the length, and after a 0 that many bytes.
-pub(crate) fn written(answer: u64, length: u64, room: &[u8]) {
-    answered(b"write", answer);
-    number(length);
+pub(crate) fn written(
+    out: &mut impl Write,
+    answer: u64,
+    length: u64,
+    room: &[u8],
+) -> io::Result<()> {
+    answered(out, b"write", answer)?;
+    number(out, length)?;
     if answer == 0 {
-        bytes(record::start(room, length));
+        bytes(out, record::start(room, length))?;
     }
-    end();
+    end(out)
 }
 
 // A place later in the line, with a byte put there; where the line is full nothing is put.
@@ -114,9 +118,9 @@ fn put_bytes(line: &mut [u8], text: &[u8]) -> usize {
 }
 
 // A space and the bytes as text: up to 4,307 bytes, each of at most four in the line.
-fn bytes(text: &[u8]) {
+fn bytes(out: &mut impl Write, text: &[u8]) -> io::Result<()> {
     let mut line = [0u8; 17228];
     let n = put_bytes(&mut line, text);
-    io::write_all(STDOUT_FILENO, b" ");
-    io::write_all(STDOUT_FILENO, record::start(&line, n as u64));
+    out.write_all(b" ")?;
+    out.write_all(record::start(&line, n as u64))
 }

@@ -19,7 +19,14 @@
 //
 // Numbers stand low byte first; a byte that is missing reads as 0. A record that is cut off ends its recording, and so does one
 // of another kind. Every record fits the buffer, whose 65,536 bytes are more than two bytes of length can say.
+
 #![tactic(auto)]
+
+ghost use Rattle.std.specs.Prelude.{◌≤◌, length, IfOk};
+
+use std::io::{BufWriter, Read, Write};
+use std::rt::Files;
+use std::{env, fs, io};
 
 mod lines;
 mod record;
@@ -28,21 +35,21 @@ mod record;
 const STORE: usize = 7168;
 
 // Opens the store.
-fn open_call(store: &mut [u64], body: &[u8]) {
+fn open_call(out: &mut impl Write, store: &mut [u64], body: &[u8]) -> io::Result<()> {
     let mut ids = [0u64; record::MOST_IDS];
     let n = record::ids(body, &mut ids);
     let answer = selkavorn::selkavorn_open(store, record::byte(body, 0), record::first(&ids, n));
-    lines::opened(answer);
+    lines::opened(out, answer)
 }
 
 // Feeds a message.
-fn feed_call(store: &mut [u64], body: &[u8]) {
+fn feed_call(out: &mut impl Write, store: &mut [u64], body: &[u8]) -> io::Result<()> {
     let answer = selkavorn::selkavorn_feed(store, body);
-    lines::fed(answer % 256, answer / 256);
+    lines::fed(out, answer % 256, answer / 256)
 }
 
 // Asks for a quote.
-fn quote_call(store: &[u64], body: &[u8]) {
+fn quote_call(out: &mut impl Write, store: &[u64], body: &[u8]) -> io::Result<()> {
     let mut room = [0u64; 17];
     let time = record::part(body, 16, body.len());
     let answer = selkavorn::selkavorn_quote(
@@ -52,28 +59,28 @@ fn quote_call(store: &[u64], body: &[u8]) {
         record::number(body, 8),
         &mut room,
     );
-    lines::told(b"quote", answer, &room);
+    lines::told(out, b"quote", answer, &room)
 }
 
 // Asks for a state.
-fn state_call(store: &[u64], body: &[u8]) {
+fn state_call(out: &mut impl Write, store: &[u64], body: &[u8]) -> io::Result<()> {
     let mut room = [0u64; 4];
     let answer = selkavorn::selkavorn_state(store, record::number(body, 0), &mut room);
-    lines::told(b"state", answer, &room);
+    lines::told(out, b"state", answer, &room)
 }
 
 // Asks for a summary of the board.
-fn board_call(store: &[u64]) {
+fn board_call(out: &mut impl Write, store: &[u64]) -> io::Result<()> {
     let mut room = [0u64; 5];
     let answer = selkavorn::selkavorn_board(store, &mut room);
-    lines::told(b"board", answer, &room);
+    lines::told(out, b"board", answer, &room)
 }
 
 // Has a snapshot written.
-fn write_call(store: &[u64], body: &[u8]) {
+fn write_call(out: &mut impl Write, store: &[u64], body: &[u8]) -> io::Result<()> {
     let mut room = [0u8; 4307];
     let answer = write_into(store, body, &mut room);
-    lines::written(answer % 256, answer / 256, &room);
+    lines::written(out, answer % 256, answer / 256, &room)
 }
 
 fn write_into(store: &[u64], body: &[u8], room: &mut [u8]) -> u64 {
@@ -100,7 +107,7 @@ fn numbers() -> [u64; 256] {
 }
 
 // Has a recording walked, in a room of so many numbers.
-fn walk_call(body: &[u8]) {
+fn walk_call(out: &mut impl Write, body: &[u8]) -> io::Result<()> {
     let n = record::length(body, 8);
     let mut all = numbers();
     let room = &mut all[..n];
@@ -109,11 +116,11 @@ fn walk_call(body: &[u8]) {
         record::number(body, 0),
         room,
     );
-    lines::told(b"salvage", answer, room);
+    lines::told(out, b"salvage", answer, room)
 }
 
 // Has a lot sold.
-fn sell_call(store: &[u64], body: &[u8]) {
+fn sell_call(out: &mut impl Write, store: &[u64], body: &[u8]) -> io::Result<()> {
     let mut room = [0u64; 5];
     let time = record::part(body, 24, body.len());
     let answer = selkavorn::selkavorn_sell(
@@ -124,11 +131,11 @@ fn sell_call(store: &[u64], body: &[u8]) {
         record::number(body, 8),
         &mut room,
     );
-    lines::told(b"sell", answer, &room);
+    lines::told(out, b"sell", answer, &room)
 }
 
 // Has a lot bought.
-fn buy_call(store: &[u64], body: &[u8]) {
+fn buy_call(out: &mut impl Write, store: &[u64], body: &[u8]) -> io::Result<()> {
     let mut room = [0u64; 5];
     let time = record::part(body, 24, body.len());
     let answer = selkavorn::selkavorn_buy(
@@ -139,7 +146,7 @@ fn buy_call(store: &[u64], body: &[u8]) {
         record::number(body, 8),
         &mut room,
     );
-    lines::told(b"buy", answer, &room);
+    lines::told(out, b"buy", answer, &room)
 }
 
 // Sets a number of the store.
@@ -151,74 +158,82 @@ fn set_number(store: &mut [u64], body: &[u8]) {
 }
 
 // Does what a record says, and answers whether its kind is one of the ten.
-fn call(store: &mut [u64], kind: u8, body: &[u8]) -> bool {
+fn call(out: &mut impl Write, store: &mut [u64], kind: u8, body: &[u8]) -> io::Result<bool> {
     match kind {
-        b'O' => open_call(store, body),
-        b'F' => feed_call(store, body),
-        b'Q' => quote_call(store, body),
-        b'S' => state_call(store, body),
-        b'B' => board_call(store),
-        b'W' => write_call(store, body),
-        b'R' => walk_call(body),
-        b'L' => sell_call(store, body),
-        b'P' => buy_call(store, body),
+        b'O' => open_call(out, store, body)?,
+        b'F' => feed_call(out, store, body)?,
+        b'Q' => quote_call(out, store, body)?,
+        b'S' => state_call(out, store, body)?,
+        b'B' => board_call(out, store)?,
+        b'W' => write_call(out, store, body)?,
+        b'R' => walk_call(out, body)?,
+        b'L' => sell_call(out, store, body)?,
+        b'P' => buy_call(out, store, body)?,
         b'D' => set_number(store, body),
-        _ => return false,
+        _ => return Ok(false),
     }
-    true
+    Ok(true)
+}
+
+// Reads until the buffer is full or the file ends: how many bytes came.
+fn read_full(file: &mut impl Read, buf: &mut [u8]) -> io::Result<usize>
+    ensures { IfOk result (λ n. n ≤ length buf.old) }
+{
+    let mut got = 0usize;
+    while got < buf.len() {
+        let n = file.read(&mut buf[got..])?;
+        if n == 0 {
+            break;
+        }
+        got += n;
+    }
+    Ok(got)
 }
 
 // Reads one record and does what it says; answers whether to go on.
-fn next(fd: i32, store: &mut [u64]) -> bool {
+fn next(out: &mut impl Write, file: &mut impl Read, store: &mut [u64]) -> io::Result<bool> {
     let mut head = [0u8; 3];
-    let got = io::read_full(fd, &mut head);
+    let got = read_full(file, &mut head)?;
     if got < 3 {
-        return false;
+        return Ok(false);
     }
     let n = record::size(&head);
-    let mut body = io::large_buffer();
+    let mut body = [0u8; 65536];
     let part = &mut body[..n];
-    let got = io::read_full(fd, part);
+    let got = read_full(file, part)?;
     if got < n {
-        return false;
+        return Ok(false);
     }
-    call(store, head[0], part)
+    call(out, store, head[0], part)
 }
 
-// A proved loop has to end, and nothing says that a file does. So the loop counts its turns down, from a number that no run
-// uses up.
-fn replay(fd: i32, store: &mut [u64]) {
-    let mut turns = u64::MAX;
-    while turns > 0 && next(fd, store) {
-        turns -= 1;
+// A proved loop has to end, and nothing says that a file does. So the loop counts its turns, to a number that no run comes to.
+fn replay(out: &mut impl Write, file: &mut impl Read, store: &mut [u64]) -> io::Result<()> {
+    for _ in 0..u64::MAX {
+        if !next(out, file, store)? {
+            break;
+        }
     }
+    Ok(())
 }
 
 // Replays a recording on a store of zeros.
-fn replay_file(path: &[u8]) {
-    let fd = os::open_read(path);
-    if fd < 0 {
-        os::fail(path);
-        return;
-    }
+fn replay_file<R: Files>(rt: &R, out: &mut impl Write, path: &str) -> io::Result<()> {
+    let mut file = fs::open(rt, path)?;
     let mut store = [0u64; STORE];
-    replay(fd, &mut store);
-    libc::close(fd);
+    replay(out, &mut file, &mut store)
 }
 
 // Replays the recording that an argument names, under a line with its name.
-fn recording(i: usize) {
-    let mut path = io::buffer();
-    let n = os::arg(i, &mut path);
-    lines::title(&path[..n]);
-    replay_file(&path[..n]);
+fn recording<R: Files>(rt: &R, out: &mut impl Write, path: &str) -> io::Result<()> {
+    lines::title(out, path.as_bytes())?;
+    replay_file(rt, out, path)
 }
 
-fn main() {
-    let n = os::arg_count();
-    let mut i = 1;
-    while i < n {
-        recording(i);
-        i += 1;
+fn main(rt: HostRuntime) -> io::Result<()> {
+    let mut out = BufWriter::new(rt.alloc(), rt.stdout())?;
+    for path in env::args(&rt)?.skip(1) {
+        recording(&rt, &mut out, path.as_str())?;
     }
+    out.flush()
 }
