@@ -1,5 +1,5 @@
-// The functions that a C program calls; include/selkavorn.h and include/selkavorn_lots.h say what each takes. None of them asks
-// anything of its caller beyond what C asks of a pointer and a length.
+// The functions that a C program calls, by crate selkavorn_c; include/selkavorn.h and include/selkavorn_lots.h say what each takes. None
+// of them asks anything of its caller beyond what C asks of a pointer and a length.
 #![tactic(auto)]
 
 ghost use Rattle.opening.specs.Opening.{Opened};
@@ -12,38 +12,28 @@ ghost use Rattle.lots.specs.Rooms.{Dealt};
 ghost use Rattle.std.specs.Prelude.{true, false};
 
 // Opens a store for a depth kind (0 order depth, 1 price depth) and SecurityIDs.
-#[unsafe(no_mangle)]
-pub extern "C" fn selkavorn_open(store: &mut [u64], depth: u64, ids: &[u64]) -> u64
+pub fn selkavorn_open(store: &mut [u64], depth: u64, ids: &[u64]) -> u64
     ensures { Opened depth ids.now store.old result store.new }
 {
     opening::open_store(store, depth, ids)
 }
 
 // Reads a message and gives it to the board: the answer and 256 times how many instruments wait.
-#[unsafe(no_mangle)]
-pub extern "C" fn selkavorn_feed(store: &mut [u64], msg: &[u8]) -> u64
+pub fn selkavorn_feed(store: &mut [u64], msg: &[u8]) -> u64
     ensures { Fed msg.now store.old result store.new }
 {
     feed::feed(store, msg)
 }
 
 // Quotes place 1 of each side with H and the heard moment, as 17 numbers in out; now is shaped as tag 52.
-#[unsafe(no_mangle)]
-pub extern "C" fn selkavorn_quote(
-    store: &[u64],
-    id: u64,
-    time: &[u8],
-    limit: u64,
-    out: &mut [u64],
-) -> u64
+pub fn selkavorn_quote(store: &[u64], id: u64, time: &[u8], limit: u64, out: &mut [u64]) -> u64
     ensures { Asked id time.now limit out.old store.now result out.new }
 {
     ask::quote(store, id, time, limit, out)
 }
 
 // Writes an instrument's book as a snapshot, message k of a loop of m: the answer and 256 times its length.
-#[unsafe(no_mangle)]
-pub extern "C" fn selkavorn_write(
+pub fn selkavorn_write(
     store: &[u64],
     id: u64,
     sender: &[u8],
@@ -59,32 +49,28 @@ pub extern "C" fn selkavorn_write(
 }
 
 // Says why an instrument waits, as 4 numbers in out: Waiting 1 or 0, the reason, bids held, offers held.
-#[unsafe(no_mangle)]
-pub extern "C" fn selkavorn_state(store: &[u64], id: u64, out: &mut [u64]) -> u64
+pub fn selkavorn_state(store: &[u64], id: u64, out: &mut [u64]) -> u64
     ensures { Stated id out.old store.now result out.new }
 {
     ask::state(store, id, out)
 }
 
 // Says what was counted and who waits, as 5 numbers in out: H, the heard date and time, B, the Waiting marks.
-#[unsafe(no_mangle)]
-pub extern "C" fn selkavorn_board(store: &[u64], out: &mut [u64]) -> u64
+pub fn selkavorn_board(store: &[u64], out: &mut [u64]) -> u64
     ensures { Summed out.old store.now result out.new }
 {
     summary::summary(store, out)
 }
 
 // Walks a recording from a byte on, as many pieces as fit in out: the byte to go on at, how many pieces, and three numbers for each.
-#[unsafe(no_mangle)]
-pub extern "C" fn selkavorn_salvage(rec: &[u8], from: u64, out: &mut [u64]) -> u64
+pub fn selkavorn_salvage(rec: &[u8], from: u64, out: &mut [u64]) -> u64
     ensures { Salvaged rec.now from out.old result out.new }
 {
     salvage::walk(rec, from, out)
 }
 
 // Gives what selling so many units down an instrument's bids brings, as 5 numbers in out: H, the heard date and time, the sum, what is left.
-#[unsafe(no_mangle)]
-pub extern "C" fn selkavorn_sell(
+pub fn selkavorn_sell(
     store: &[u64],
     id: u64,
     quantity: u64,
@@ -98,8 +84,7 @@ pub extern "C" fn selkavorn_sell(
 }
 
 // Gives what buying so many units up an instrument's offers costs, likewise.
-#[unsafe(no_mangle)]
-pub extern "C" fn selkavorn_buy(
+pub fn selkavorn_buy(
     store: &[u64],
     id: u64,
     quantity: u64,
