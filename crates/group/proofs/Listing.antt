@@ -2,7 +2,6 @@
 use mathlib.Core.Path.{◌≡◌, refl, sym, ap, ◌∙◌}
 use mathlib.Core.List.{List, [], ◌∷◌, ◌++◌}
 use mathlib.Core.Bool.{Bool, true, false, cond, not, ◌||◌, false≢true}
-use mathlib.Core.Logic.{◌⊎◌, inl, inr}
 use mathlib.Core.Option.{Option, none, some}
 use Prim.Native.Nat.{ℕ, ◌+◌, ◌*◌, ◌-◌, ◌≤◌, ◌<◌}
 use native.Mathlib.Omega.{arith}
@@ -120,11 +119,6 @@ module _ (good : Bool) (o : Option (List Update)) (us : List Update) where
 
   pub at-refusal : good ≡ false → o ≡ none → Ended good o us
   at-refusal q r = record { yes = λ h. absurd (false≢true (sym q ∙ h)); no = λ h. r }
-
--- by the way that was taken
-pub cases : {A B C : Type 0} → A ⊎ B → (A → C) → (B → C) → C
-cases (inl x) f g = f x
-cases (inr y) f g = g y
 
 module _ (s : List ℕ) (start count depth : ℕ) (t : Top) where
   abbrev whole : Option (List Update)
