@@ -1,12 +1,9 @@
 -- The whole message: what its body says where that reads well, else why it is not read. Assumes nothing.
 use mathlib.Core.Path.{◌≡◌, refl, sym, ap, ◌∙◌}
-use mathlib.Core.List.{List, [], ◌∷◌}
+use mathlib.Core.List.{List}
 use mathlib.Core.Bool.{Bool, true, false, false≢true, true≢false}
 use mathlib.Core.Option.{Option, none, some}
 use Prim.Native.Nat.{ℕ, ◌-◌}
-use native.Mathlib.Omega.{arith}
-use denote.Enum.Declared.{tag_of}
-use types.Run.{OneOf}
 use lib.ListN.{length}
 use Rattle.message.specs.Message.{Message, numbered, snapshot, refused, told}
 use Rattle.message.specs.declared.Reading.{Reading}
@@ -17,7 +14,6 @@ use Rattle.frame.specs.Frames.{frame_of}
 use Rattle.frame.specs.ByPlace.{outline_of}
 use Rattle.chain.specs.Places.{part, is_some, left}
 use Rattle.frame.specs.declared.Framed.{Framed}
-use Rattle.frame.specs.contracts.Framed as framed
 use Rattle.frame.proofs.Messages.{framing, outline, outlined}
 use Rattle.chain.proofs.Walk.{left-whole}
 use Rattle.tags.proofs.Unbroken.{unbroken}
@@ -26,7 +22,6 @@ use Rattle.fields.specs.Messages.{message_in}
 use Rattle.fields.specs.Messages.{refusal_of}
 use Rattle.group.specs.Reads.{Spared, Reads}
 use Rattle.group.proofs.Reading.{refused-reads, reads_as}
-use Rattle.group.proofs.Listing.{cases}
 use Rattle.lead.proofs.Bodies.{refused-by}
 use Rattle.fields.proofs.Unbroken.{is_read, typed-well}
 
@@ -72,13 +67,6 @@ module _ (depth kind : ℕ) (fs : List Field) {r : Reading} {xs ys : List ℕ} (
       go (some m) e = absurd (true≢false (sym (verdict-is (some m) e ∙ some_read m (typed-well fs depth kind e).read) ∙ q))
 
 -- ---- the message
--- one of the variants after the first
-pub no-frame : (x : Framed) → OneOf (1 ∷ 2 ∷ 3 ∷ []) (tag_of framed.the_type x) → (kind from : ℕ) → x ≡ Framed.Is kind from → ⊥
-no-frame (Framed.Is k f) h kind from e = cases h (λ p. omega arith) (λ h. cases h (λ p. omega arith) (λ p. omega arith))
-no-frame Framed.BadFrame h kind from e = let z : ◌≡◌ {A = ℕ} 0 1 = cc in omega arith
-no-frame Framed.BadSum h kind from e = let z : ◌≡◌ {A = ℕ} 0 1 = cc in omega arith
-no-frame Framed.BadType h kind from e = let z : ◌≡◌ {A = ℕ} 0 1 = cc in omega arith
-
 module _ (depth : ℕ) (s : List ℕ) where
   -- the bytes between 35 and 10, of which the walk takes the fields
   abbrev inner : ℕ → List ℕ
