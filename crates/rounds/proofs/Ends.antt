@@ -12,7 +12,7 @@ use Rattle.cells.specs.Runs.{update_size, updates_in}
 use Rattle.heading.specs.Marks.{marked}
 use Rattle.message.specs.declared.Reading.{Reading}
 use Rattle.message.specs.Message.{told, said}
-use Rattle.board.specs.Board.{Inst, Out, no_inst, at}
+use Rattle.board.specs.Board.{Inst, Out, no_inst}
 use Rattle.board.specs.Feed.{feed}
 use Rattle.board.specs.Calls.{Call, fed, calls}
 use Rattle.board.specs.Laws.{Same}

@@ -8,7 +8,7 @@ use lib.ListN.{take, drop, take-append-drop}
 use Rattle.message.specs.Message.{Message}
 use Rattle.board.specs.Ranges.{message_fine}
 use Rattle.loops.specs.declared.Loop.{Loop}
-use Rattle.loops.specs.Channel.{Channel, channel, Reply, given}
+use Rattle.loops.specs.Channel.{Channel, Reply, given}
 use Rattle.loops.specs.Sound.{SoundChannel}
 use Rattle.loops.proofs.Laws.{keeps-sound}
 use Rattle.store.specs.Layout.{store_size}
