@@ -45,7 +45,7 @@ def stale():
     drawn = subprocess.run([sys.executable, "docs/pictures/store.py", *sources], cwd=ROOT, capture_output=True, text=True, check=True)
     if drawn.stdout != (ROOT / "docs/pictures/store.svg").read_text():
         yield "docs/pictures/store.svg is not what its sources say: make pictures"
-    listed = set(re.findall(r"^(\w+):", (ROOT / "crates.txt").read_text(), re.M))
+    listed = set(re.findall(r"^(\w+)(?: staticlib)?:", (ROOT / "crates.txt").read_text(), re.M))
     shown = set(re.findall(r"<title>(\w+)</title>", (ROOT / "docs/pictures/crates.svg").read_text())) - {"crates"}
     if listed != shown:
         yield f"docs/pictures/crates.svg lacks or adds {' '.join(sorted(listed ^ shown))}: make pictures"

@@ -7,9 +7,9 @@ import sys
 
 
 def read(lines):
-    """The crates with what each rests on, in the order of the file."""
+    """The crates with what each rests on, in the order of the file. A static library has that word behind its name."""
     named = [line.split(":") for line in lines if line.strip() and not line.startswith("#")]
-    crates = {name.strip(): rests.split() for name, rests in named}
+    crates = {name.split()[0]: rests.split() for name, rests in named}
     return {name: [low for low in rests if low in crates] for name, rests in crates.items()}
 
 
