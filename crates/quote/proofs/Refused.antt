@@ -1,22 +1,17 @@
--- What is known of a quote that is not given, by its place among the cases. Assumes nothing.
+-- What is known of a quote that is not given. Assumes nothing.
 use mathlib.Core.Path.{◌≡◌, refl}
 use mathlib.Core.Bool.{false}
-use mathlib.Core.List.{List, [], ◌∷◌}
-use Prim.Native.Nat.{ℕ}
 use lib.Dec.{eqb}
-use denote.Enum.Declared.{tag_of}
-use types.Run.{OneOf, miss}
 use Rattle.quote.specs.Quotes.{if_quoted, quote_number}
 use Rattle.quote.specs.declared.Quote.{Quote}
 use Rattle.quote.specs.declared.Quoted.{Quoted}
-use Rattle.quote.specs.contracts.Quoted.{the_type}
 
--- the places of the cases but the first, as a let-else tells them
-abbrev pub refusals : List ℕ
-refusals = 1 ∷ 2 ∷ 3 ∷ 4 ∷ 5 ∷ 6 ∷ 7 ∷ []
+-- that it is not given, as a let-else tells it
+abbrev pub NotGiven : Quoted → Type 0
+NotGiven q = (x : Quote) → q ≡ Quoted.Is x → ⊥
 
-pub refused-number : (q : Quoted) → OneOf refusals (tag_of the_type q) → eqb (quote_number q) 0 ≡ false
-refused-number (Quoted.Is q) h = absurd (miss refusals 0 tt h)
+pub refused-number : (q : Quoted) → NotGiven q → eqb (quote_number q) 0 ≡ false
+refused-number (Quoted.Is q) h = absurd (h q refl)
 refused-number Quoted.Unsound h = refl
 refused-number Quoted.BadArgument h = refl
 refused-number Quoted.NotFollowed h = refl
@@ -25,8 +20,8 @@ refused-number Quoted.NothingHeard h = refl
 refused-number Quoted.BeforeHeard h = refl
 refused-number Quoted.TooOld h = refl
 
-pub refused-is : {A : Type 0} (f : Quote → A) (z : A) (q : Quoted) → OneOf refusals (tag_of the_type q) → if_quoted f z q ≡ z
-refused-is f z (Quoted.Is q) h = absurd (miss refusals 0 tt h)
+pub refused-is : {A : Type 0} (f : Quote → A) (z : A) (q : Quoted) → NotGiven q → if_quoted f z q ≡ z
+refused-is f z (Quoted.Is q) h = absurd (h q refl)
 refused-is f z Quoted.Unsound h = refl
 refused-is f z Quoted.BadArgument h = refl
 refused-is f z Quoted.NotFollowed h = refl
