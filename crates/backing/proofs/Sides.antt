@@ -7,8 +7,6 @@ use native.Mathlib.Omega.{arith}
 use lib.Dec.{leb}
 use lib.ListN.{length}
 use borrow.Author.Tests.{leb-false}
-use denote.Enum.Declared.{tag_of}
-use types.Run.{OneOf}
 use Rattle.digits.specs.declared.Number.{Number}
 use Rattle.moment.specs.Moments.{moment_of}
 use Rattle.book.specs.declared.Side.{Side}
@@ -26,8 +24,7 @@ use Rattle.sound.proofs.Readers.{formed}
 use Rattle.quote.specs.Quotes.{most_limit, quote_at, at_now, quote_of}
 use Rattle.quote.specs.declared.Quote.{Quote}
 use Rattle.quote.specs.declared.Quoted.{Quoted}
-use Rattle.quote.specs.contracts.Quoted.{the_type}
-use Rattle.quote.proofs.Refused.{refusals, refused-is}
+use Rattle.quote.proofs.Refused.{NotGiven, refused-is}
 use Rattle.backing.specs.Backing.{quoted_of, side_for, behind, Backs}
 
 -- ---- a quote that is given is of an instrument that is followed
@@ -72,7 +69,7 @@ module _ (buying : Bool) (id : ℕ) (now : List ℕ) (limit : ℕ) (xs : List �
     unfolding quoted_of
     is-quote q e = e ∙ rw s
 
-    pub refused : (q : Quoted) → q ≡ quote_of id now limit (board_at xs) → OneOf refusals (tag_of the_type q)
+    pub refused : (q : Quoted) → q ≡ quote_of id now limit (board_at xs) → NotGiven q
         → Backs buying id now limit xs (record { quoted = q; side = no_side })
     unfolding behind
     refused q e h =
