@@ -237,6 +237,7 @@ fn read(text: &[u8], width: usize) -> u64
 }
 
 // 1 to width digits where these are few, one a turn.
+#[tactic(auto, using(crate::proofs::Steps::other))]
 fn few(text: &[u8], width: usize) -> Number
     requires { width ≤ 3 }
     ensures { result ≡ digits_of width text.now }

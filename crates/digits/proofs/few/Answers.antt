@@ -1,7 +1,7 @@
 -- `digits::few` meets its contract: the whole answer is what is left gives, after the digits that wrote v. Assumes nothing.
 use Rattle.std.proofs.Common.{sym, ◌∙◌, arith}
 use Rattle.digits.proofs.Width.{push, small}
-use Rattle.digits.proofs.Steps.{none, long, fit, one, other, done}
+use Rattle.digits.proofs.Steps.{none, long, fit, one, done}
 use Rattle.digits.proofs.few.Goals as goal
 
 pub returns-then-n-eq0 : goal.returns-then-n-eq0
@@ -13,9 +13,6 @@ returns-then-n-width c = sym (long _ _ (omega arith) c.if-n-width.true)
 pub loop-i-init : goal.loop-i-init
 loop-i-init c = (omega arith, omega arith, omega arith, fit _ _ (omega arith) c.if-n-width.false (omega (arith, c.requires)))
 
-pub returns-then-d-gt9 : goal.returns-then-d-gt9
-returns-then-d-gt9 c = sym (c.loop-i.invariant.3 ∙ other _ _ _ _ c.worth-d.ensures c.loop-i-test.true c.if-d-gt9.true)
-
 pub overflow_mul-v : goal.overflow_mul-v
 overflow_mul-v c = let l = c.loop-i in omega (arith, small {j = l.i} (omega (arith, l.invariant.0)), l.invariant.2)
 
@@ -25,7 +22,7 @@ overflow_add-v c = let l = c.loop-i in omega (arith, small {j = l.i} (omega (ari
 pub loop-i-preserved : goal.loop-i-preserved
 loop-i-preserved c =
     let l = c.loop-i in
-    (omega (arith, c.loop-i-test.true, c.if-n-width.false, c.requires), omega (arith, c.loop-i-test.true), push l.i l.invariant.2 (omega (arith, c.if-d-gt9.false)), l.invariant.3 ∙ one _ _ _ _ c.worth-d.ensures c.loop-i-test.true c.if-d-gt9.false)
+    (omega (arith, c.loop-i-test.true, c.if-n-width.false, c.requires), omega (arith, c.loop-i-test.true), push l.i l.invariant.2 (omega arith), l.invariant.3 ∙ one _ _ _ _ c.worth-d.ensures c.loop-i-test.true (omega arith))
 
 pub returns : goal.returns
 returns c = sym (c.loop-i.invariant.3 ∙ done _ _ _ c.loop-i-test.false)
