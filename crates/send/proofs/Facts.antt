@@ -12,7 +12,7 @@ use Rattle.orderid.specs.OrderIds.{is_id, id_bytes, top, full, id_sound}
 use Rattle.book.specs.Canonical.{All, held_in}
 use Rattle.book.specs.declared.Entry.{Entry}
 use Rattle.line.specs.Entries.{Writable}
-use Rattle.board.specs.Board.{at, no_inst}
+use Rattle.board.specs.Board.{no_inst}
 use Rattle.board.specs.Ranges.{within, most_id, most_orders, id_fine, orders_fine, by_fine, entry_fine}
 use Rattle.board.specs.Sound.{SoundInst}
 use Rattle.board.proofs.Tested.{both, three, four, within-true, entry-sound}
