@@ -1,20 +1,17 @@
 -- A lot's tests as the code makes them. Assumes nothing.
 use mathlib.Core.Path.{◌≡◌, refl, sym, ap, ◌∙◌}
 use mathlib.Core.Bool.{Bool, true, false, false≢true, cond, ◌||◌}
-use mathlib.Core.List.{List, [], ◌∷◌}
+use mathlib.Core.List.{List, []}
 use Prim.Native.Nat.{ℕ, ◌≤◌, ◌<◌}
 use native.Mathlib.Omega.{arith}
 use lib.Dec.{leb, ltb, eqb}
 use lib.ListN.{length, set}
 use lib.Seq.{sets}
 use borrow.Author.Tests.{ltb-true, ltb-false, le-leb, lt-leb, leb-true, ne_eqb}
-use denote.Enum.Declared.{tag_of}
-use types.Run.{OneOf, miss}
 use Rattle.book.specs.declared.Entry.{Entry}
 use Rattle.book.specs.Canonical.{held_in}
 use Rattle.quote.specs.declared.Quoted.{Quoted}
-use Rattle.quote.specs.contracts.Quoted.{the_type}
-use Rattle.quote.proofs.Refused.{refusals, refused-is}
+use Rattle.quote.proofs.Refused.{NotGiven, refused-is}
 use Rattle.ask.specs.Ask.{room_after, bits_of, moment_words}
 use Rattle.backing.specs.Backing.{quoted_of, behind, Backs}
 use Rattle.backing.specs.declared.Backed.{Backed}
@@ -27,10 +24,9 @@ use Rattle.lots.specs.declared.Sold.{Sold}
 use Rattle.lots.specs.declared.Lotted.{Lotted}
 use Rattle.lots.specs.Lots.{most_units, units_fine, dated, on_quote, lotted_of, lot_number}
 use Rattle.lots.specs.Rooms.{lot_size, sold_words, lot_words, in_room, FineLot, lot_answer, lot_out, Dealt}
-use Rattle.lots.specs.contracts.Lotted.{the_type as lot-type}
 
 -- what refuses the quote refuses the lot
-pub passes : (r : Quoted) (n : ℕ) (es : List Entry) → OneOf refusals (tag_of the_type r) → Lotted.Not r ≡ on_quote r n es
+pub passes : (r : Quoted) (n : ℕ) (es : List Entry) → NotGiven r → Lotted.Not r ≡ on_quote r n es
 passes r n es h = sym (refused-is (λ q. cond (units_fine n) (dated q (lot_of n es)) Lotted.BadQuantity) (Lotted.Not r) r h)
 
 -- the quantity
@@ -81,13 +77,13 @@ pub sold-is : (l : List ℕ) (s : Sold) → set (set (sets (set l 0 s.number) 1 
 sold-is l s = refl
 
 -- a refusal writes nothing
-no_words : (l : Lotted) → OneOf (1 ∷ 2 ∷ 3 ∷ []) (tag_of lot-type l) → lot_words l ≡ []
-no_words (Lotted.Is s) h = absurd (miss (1 ∷ 2 ∷ 3 ∷ []) 0 tt h)
+no_words : (l : Lotted) → ((s : Sold) → l ≡ Lotted.Is s → ⊥) → lot_words l ≡ []
+no_words (Lotted.Is s) h = absurd (h s refl)
 no_words (Lotted.Not q) h = refl
 no_words Lotted.BadQuantity h = refl
 no_words Lotted.Over h = refl
 
-pub nothing : (l : Lotted) (answer : ℕ) (room : List ℕ) → OneOf (1 ∷ 2 ∷ 3 ∷ []) (tag_of lot-type l) → room ≡ room_after answer (lot_words l) room
+pub nothing : (l : Lotted) (answer : ℕ) (room : List ℕ) → ((s : Sold) → l ≡ Lotted.Is s → ⊥) → room ≡ room_after answer (lot_words l) room
 nothing l answer room h = rw (no_words l h) (go (eqb answer 0))
   where
     go : (t : Bool) → room ≡ cond t (sets room 0 []) room
