@@ -12,7 +12,7 @@ extern "C" {
 #define DIGITS_WIDEST 18
 #define DIGITS_NONE UINT64_MAX /* above every number of 18 digits */
 
-/* The proved one, by itself (crates/gauge). */
+/* The proved one, by itself (crates/gauge_c). */
 uint64_t selkavorn_gauge_digits(const uint8_t *text, size_t text_n);
 
 /* The proved one before it: one digit a turn. */

@@ -106,7 +106,7 @@ NOTES = """\
   `quote` does. Before it is timed, the books are compared, and all numbers of both lots with what the plain reader's places bring;
   the run fails where there are not 20 bids, or where a lot that is timed is not answered 0. `selkavorn_buy` does the same with the
   offers: its stack is measured, and it is not timed.
-- The reader of digits is `digits::digits` with a width of 18, exported by itself (`crates/gauge`). In the archive that users link, a
+- The reader of digits is `digits::digits` with a width of 18, exported by itself (`crates/gauge_c`). In the archive that users link, a
   value whose field may have more than 3 digits is read by a call of one function, `digits::read`, which is here taken whole into the
   exported one; where a field has at most 3, the value is read by a loop that is taken into each caller, and that is not measured. So the
   rows of 1 to 3 digits are of values in a field that may have more. Beside it stands the proved reader that it took the place of, which
