@@ -16,37 +16,37 @@ use Rattle.book.specs.declared.Entry.{Entry}
 use Rattle.board.specs.Board.{Board, look, at, no_inst}
 use Rattle.board.specs.Ranges.{id_fine, entry_fine}
 use Rattle.board.specs.Sound.{Sound, SoundInst}
-use Rattle.board.proofs.Tested.{entry-sound}
+use Rattle.board.proofs.Tested.{entry_sound}
 use Rattle.board.proofs.Each.{each_at}
 use Rattle.store.specs.Meaning.{board_at}
 use Rattle.sound.specs.Sound.{sound}
 use Rattle.quote.specs.Quotes.{most_limit, top_of, given, quote_at, at_now, quote_of}
 use Rattle.quote.specs.declared.Quoted.{Quoted}
-use Rattle.quote.proofs.Asked.{heard-held}
+use Rattle.quote.proofs.Asked.{heard_held}
 use Rattle.ask.specs.Ask.{room_after, quote_number, quote_values, quote_answer, quote_out, Asked}
 use Rattle.ask.specs.Fine.{FineTop, FineQuote, FineQuoted}
 
 -- ---- every moment is in range
 
-pub entry-moment : (depth : ℕ) (e : Entry) → entry_fine depth e ≡ true → e.moment < moments
-entry-moment depth e h = (entry-sound depth e h).moment
+pub entry_moment : (depth : ℕ) (e : Entry) → entry_fine depth e ≡ true → e.moment < moments
+entry_moment depth e h = (entry_sound depth e h).moment
 
 top_fine : (depth : ℕ) (l : List Entry) → All (λ e. entry_fine depth e ≡ true) l → FineTop (top_of l)
 top_fine depth [] h = tt
-top_fine depth (e ∷ l) h = entry-moment depth e h.0
+top_fine depth (e ∷ l) h = entry_moment depth e h.0
 
 module _ (b : Board) (s : Sound b) where
-  given-fine : (i : ℕ) → i < length b.insts → (b.H ≡ 0 → ⊥) → FineQuote (given b (at i b))
-  given-fine i h n =
+  given_fine : (i : ℕ) → i < length b.insts → (b.H ≡ 0 → ⊥) → FineQuote (given b (at i b))
+  given_fine i h n =
       let x : SoundInst b.depth (at i b) = each_at (SoundInst b.depth) b.insts i no_inst s.each h in
       record {
-        heard = heard-held b.H b.heard n s.heard;
+        heard = heard_held b.H b.heard n s.heard;
         bid = top_fine b.depth (at i b).book.bids x.bids.entries;
         offer = top_fine b.depth (at i b).book.offers x.offers.entries;
       }
 
-  at-fine : (i time limit : ℕ) → FineQuoted (quote_at i time limit b)
-  at-fine i time limit =
+  at_fine : (i time limit : ℕ) → FineQuoted (quote_at i time limit b)
+  at_fine i time limit =
       go (leb (length b.insts) i) (at i b).waiting (eqb b.H 0) (lt_z (age_of time b.heard) (pos 0)) (lt_z (pos (limit * 1000)) (age_of time b.heard)) refl refl
     where
       go : (f w n k o : Bool) → leb (length b.insts) i ≡ f → eqb b.H 0 ≡ n
@@ -56,19 +56,19 @@ module _ (b : Board) (s : Sound b) where
       go false false true k o p q = tt
       go false false false true o p q = tt
       go false false false false true p q = tt
-      go false false false false false p q = given-fine i (leb-false (length b.insts) i p) (eqb-false b.H 0 q)
+      go false false false false false p q = given_fine i (leb-false (length b.insts) i p) (eqb-false b.H 0 q)
 
-  now-fine : (n : Number) (id limit : ℕ) → FineQuoted (at_now n id limit b)
-  now-fine Number.No id limit = tt
-  now-fine (Number.Is time) id limit = go (id_fine id && leb limit most_limit)
+  now_fine : (n : Number) (id limit : ℕ) → FineQuoted (at_now n id limit b)
+  now_fine Number.No id limit = tt
+  now_fine (Number.Is time) id limit = go (id_fine id && leb limit most_limit)
     where
       go : (t : Bool) → FineQuoted (cond t (quote_at (look id b.insts) time limit b) Quoted.BadArgument)
-      go true = at-fine (look id b.insts) time limit
+      go true = at_fine (look id b.insts) time limit
       go false = tt
 
-  pub quoted-fine : (id : ℕ) (now : List ℕ) (limit : ℕ) → FineQuoted (quote_of id now limit b)
+  pub quoted_fine : (id : ℕ) (now : List ℕ) (limit : ℕ) → FineQuoted (quote_of id now limit b)
   unfolding quote_of
-  quoted-fine id now limit = now-fine (moment_of now) id limit
+  quoted_fine id now limit = now_fine (moment_of now) id limit
 
 -- ---- the answers
 

@@ -15,23 +15,23 @@ use Rattle.board.specs.Ranges.{id_fine}
 use Rattle.store.specs.Layout.{reason_of, bids_of, offers_of}
 use Rattle.store.specs.Meaning.{State, inst_at, board_in, board_at}
 use Rattle.store.specs.Canon.{Formed}
-use Rattle.store.proofs.Decode.{at-board}
+use Rattle.store.proofs.Decode.{at_board}
 use Rattle.sound.specs.Sound.{sound}
 use Rattle.ask.specs.Ask.{state_words, state_answer, state_out, Stated}
 
-length-held : (t : Side) → Kept t → length (held_in t) ≡ t.held
-length-held t k = let f = k.full in let r = k.room in length-take-le t.held t.places (omega arith)
+length_held : (t : Side) → Kept t → length (held_in t) ≡ t.held
+length_held t k = let f = k.full in let r = k.room in length-take-le t.held t.places (omega arith)
 
 -- the numbers of its state
-pub state-is : (s : State) (i : ℕ) → Formed s → i < s.head.followed
+pub state_is : (s : State) (i : ℕ) → Formed s → i < s.head.followed
     → state_words (at i (board_in s))
     ≡ cond (marked s.head.marks i) 1 0 ∷ get_or s.store (reason_of i) 0 ∷ get_or s.store (bids_of i) 0 ∷ get_or s.store (offers_of i) 0 ∷ []
 unfolding inst_at
-state-is s i f h =
+state_is s i f h =
     let b = f.books i h in
-    let p = length-held _ b.bids in
-    let q = length-held _ b.offers in
-    ap state_words (at-board i s h) ∙ rw (p, q)
+    let p = length_held _ b.bids in
+    let q = length_held _ b.offers in
+    ap state_words (at_board i s h) ∙ rw (p, q)
 
 -- the answers, test by test
 module _ (id : ℕ) (room xs : List ℕ) where
@@ -45,14 +45,14 @@ module _ (id : ℕ) (room xs : List ℕ) where
     short h = let e = lt-leb 4 (length room) h in record { answer = rw (s, e); out = rw (s, e) }
 
     module _ (long : 4 ≤ length room) where
-      pub no-id : id_fine id ≡ false → Stated id room xs 18 room
+      pub no_id : id_fine id ≡ false → Stated id room xs 18 room
       unfolding state_answer state_out
-      no-id e = let l = le-leb 4 (length room) long in record { answer = rw (s, l, e); out = rw (s, l, e) }
+      no_id e = let l = le-leb 4 (length room) long in record { answer = rw (s, l, e); out = rw (s, l, e) }
 
       module _ (fine : id_fine id ≡ true) where
-        pub not-followed : length (board_at xs).insts ≤ look id (board_at xs).insts → Stated id room xs 20 room
+        pub not_followed : length (board_at xs).insts ≤ look id (board_at xs).insts → Stated id room xs 20 room
         unfolding state_answer state_out
-        not-followed h =
+        not_followed h =
             let l = le-leb 4 (length room) long in
             let e = le-leb _ _ h in
             record { answer = rw (s, l, fine, e); out = rw (s, l, fine, e) }

@@ -12,30 +12,30 @@ use Rattle.moment.specs.Moments.{moment_of}
 use Rattle.book.specs.declared.Side.{Side}
 use Rattle.book.specs.Sides.{no_side}
 use Rattle.book.specs.Canonical.{Kept, held_in}
-use Rattle.book.proofs.Canon.{kept_of, no-side-is}
+use Rattle.book.proofs.Canon.{kept_of, no_side_is}
 use Rattle.cells.specs.Cells.{side_at}
 use Rattle.board.specs.Board.{Inst, Board, look, at}
 use Rattle.board.specs.Ranges.{id_fine}
 use Rattle.store.specs.Layout.{bids_of, offers_of}
 use Rattle.store.specs.Meaning.{inst_at, board_at, loaded}
-use Rattle.store.proofs.Decode.{insts-length, at-board}
+use Rattle.store.proofs.Decode.{insts_length, at_board}
 use Rattle.sound.specs.Sound.{sound}
 use Rattle.sound.proofs.Readers.{formed}
 use Rattle.quote.specs.Quotes.{most_limit, quote_at, at_now, quote_of}
 use Rattle.quote.specs.declared.Quote.{Quote}
 use Rattle.quote.specs.declared.Quoted.{Quoted}
-use Rattle.quote.proofs.Refused.{NotGiven, refused-is}
+use Rattle.quote.proofs.Refused.{NotGiven, refused_is}
 use Rattle.backing.specs.Backing.{quoted_of, side_for, behind, Backs}
 
 -- ---- a quote that is given is of an instrument that is followed
 never : {r : Quoted} {q : Quote} → r ≡ Quoted.Is q → r ≡ Quoted.NotFollowed → ⊥
 never e f = let z : ◌≡◌ {A = ℕ} 0 1 = cc in omega arith
 
-never-bad : {r : Quoted} {q : Quote} → r ≡ Quoted.Is q → r ≡ Quoted.BadArgument → ⊥
-never-bad e f = let z : ◌≡◌ {A = ℕ} 0 1 = cc in omega arith
+never_bad : {r : Quoted} {q : Quote} → r ≡ Quoted.Is q → r ≡ Quoted.BadArgument → ⊥
+never_bad e f = let z : ◌≡◌ {A = ℕ} 0 1 = cc in omega arith
 
-followed-at : (i now limit : ℕ) (b : Board) (q : Quote) → quote_at i now limit b ≡ Quoted.Is q → i < length b.insts
-followed-at i now limit b q e = go (leb (length b.insts) i) refl
+followed_at : (i now limit : ℕ) (b : Board) (q : Quote) → quote_at i now limit b ≡ Quoted.Is q → i < length b.insts
+followed_at i now limit b q e = go (leb (length b.insts) i) refl
   where
     go : (t : Bool) → leb (length b.insts) i ≡ t → i < length b.insts
     go true w = absurd (never e (rw w))
@@ -43,62 +43,62 @@ followed-at i now limit b q e = go (leb (length b.insts) i) refl
 
 followed : (id : ℕ) (now : List ℕ) (limit : ℕ) (b : Board) (q : Quote) → quote_of id now limit b ≡ Quoted.Is q → look id b.insts < length b.insts
 unfolding quote_of
-followed id now limit b q e = by-moment (moment_of now) e
+followed id now limit b q e = by_moment (moment_of now) e
   where
-    by-test : (m : ℕ) (t : Bool) → cond t (quote_at (look id b.insts) m limit b) Quoted.BadArgument ≡ Quoted.Is q → look id b.insts < length b.insts
-    by-test m true w = followed-at (look id b.insts) m limit b q w
-    by-test m false w = absurd (never-bad w refl)
+    by_test : (m : ℕ) (t : Bool) → cond t (quote_at (look id b.insts) m limit b) Quoted.BadArgument ≡ Quoted.Is q → look id b.insts < length b.insts
+    by_test m true w = followed_at (look id b.insts) m limit b q w
+    by_test m false w = absurd (never_bad w refl)
 
-    by-moment : (m : Number) → at_now m id limit b ≡ Quoted.Is q → look id b.insts < length b.insts
-    by-moment Number.No w = absurd (never-bad w refl)
-    by-moment (Number.Is m) w = by-test m (id_fine id && leb limit most_limit) w
+    by_moment : (m : Number) → at_now m id limit b ≡ Quoted.Is q → look id b.insts < length b.insts
+    by_moment Number.No w = absurd (never_bad w refl)
+    by_moment (Number.Is m) w = by_test m (id_fine id && leb limit most_limit) w
 
 -- ---- refused
 
 -- a side that holds nothing
-no-side-kept : Kept no_side
-no-side-kept = rw no-side-is (kept_of [] (omega arith))
+no_side_kept : Kept no_side
+no_side_kept = rw no_side_is (kept_of [] (omega arith))
 
 module _ (buying : Bool) (id : ℕ) (now : List ℕ) (limit : ℕ) (xs : List ℕ) where
   pub unsound : sound xs ≡ false → Backs buying id now limit xs (record { quoted = Quoted.Unsound; side = no_side })
   unfolding quoted_of behind
-  unsound s = record { quoted = rw s; places = rw s; kept = no-side-kept }
+  unsound s = record { quoted = rw s; places = rw s; kept = no_side_kept }
 
   module _ (s : sound xs ≡ true) where
-    is-quote : (q : Quoted) → q ≡ quote_of id now limit (board_at xs) → q ≡ quoted_of id now limit xs
+    is_quote : (q : Quoted) → q ≡ quote_of id now limit (board_at xs) → q ≡ quoted_of id now limit xs
     unfolding quoted_of
-    is-quote q e = e ∙ rw s
+    is_quote q e = e ∙ rw s
 
     pub refused : (q : Quoted) → q ≡ quote_of id now limit (board_at xs) → NotGiven q
         → Backs buying id now limit xs (record { quoted = q; side = no_side })
     unfolding behind
     refused q e h =
         record {
-          quoted = is-quote q e;
-          places = rw (sym (is-quote q e)) (sym (refused-is (λ p. side_for buying (at (look id (board_at xs).insts) (board_at xs)).book) [] q h));
-          kept = no-side-kept;
+          quoted = is_quote q e;
+          places = rw (sym (is_quote q e)) (sym (refused_is (λ p. side_for buying (at (look id (board_at xs).insts) (board_at xs)).book) [] q h));
+          kept = no_side_kept;
         }
 
     -- ---- given
     module _ (q : Quote) (given : quote_of id now limit (board_at xs) ≡ Quoted.Is q) where
       found : look id (board_at xs).insts < (loaded xs).head.followed
-      found = omega (arith, followed id now limit (board_at xs) q given, insts-length (loaded xs))
+      found = omega (arith, followed id now limit (board_at xs) q given, insts_length (loaded xs))
 
       pub low : (i : ℕ) → i ≡ look id (board_at xs).insts → i < 16
       low i w = omega (arith, found, (formed xs s).few, w)
 
-      side-at : (z : Bool) → held_in (side_at xs (cond z (offers_of (look id (board_at xs).insts)) (bids_of (look id (board_at xs).insts)))) ≡ side_for z (at (look id (board_at xs).insts) (board_at xs)).book
+      side_at_lem : (z : Bool) → held_in (side_at xs (cond z (offers_of (look id (board_at xs).insts)) (bids_of (look id (board_at xs).insts)))) ≡ side_for z (at (look id (board_at xs).insts) (board_at xs)).book
       unfolding inst_at
-      side-at true = ap (λ (x : Inst). x.book.offers) (sym (at-board (look id (board_at xs).insts) (loaded xs) found))
-      side-at false = ap (λ (x : Inst). x.book.bids) (sym (at-board (look id (board_at xs).insts) (loaded xs) found))
+      side_at_lem true = ap (λ (x : Inst). x.book.offers) (sym (at_board (look id (board_at xs).insts) (loaded xs) found))
+      side_at_lem false = ap (λ (x : Inst). x.book.bids) (sym (at_board (look id (board_at xs).insts) (loaded xs) found))
 
-      side-kept : (z : Bool) → Kept (side_at xs (cond z (offers_of (look id (board_at xs).insts)) (bids_of (look id (board_at xs).insts))))
-      side-kept true = ((formed xs s).books (look id (board_at xs).insts) found).offers
-      side-kept false = ((formed xs s).books (look id (board_at xs).insts) found).bids
+      side_kept : (z : Bool) → Kept (side_at xs (cond z (offers_of (look id (board_at xs).insts)) (bids_of (look id (board_at xs).insts))))
+      side_kept true = ((formed xs s).books (look id (board_at xs).insts) found).offers
+      side_kept false = ((formed xs s).books (look id (board_at xs).insts) found).bids
 
       pub backs : (r : Quoted) (i : ℕ) (side : Side) → r ≡ quote_of id now limit (board_at xs) → i ≡ look id (board_at xs).insts
           → side ≡ side_at xs (cond buying (offers_of i) (bids_of i)) → Backs buying id now limit xs (record { quoted = r; side = side })
       unfolding quoted_of behind
       backs r i side e w v =
           rw (v, w)
-          (record { quoted = is-quote r e; places = rw (s, given) (side-at buying); kept = side-kept buying })
+          (record { quoted = is_quote r e; places = rw (s, given) (side_at_lem buying); kept = side_kept buying })

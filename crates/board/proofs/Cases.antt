@@ -15,10 +15,10 @@ use Rattle.board.specs.Snapshot.{run, after, replayed, take, too_wide, snap_by, 
 
 module _ (P : Out → Type 0) where
   -- none waited, or the message joins the queue or lets it go
-  pub count-is : (a n heard : ℕ) (us : List Update) (b : Board) → ((over : Bool) → P (count_by false over a n heard us b))
+  pub count_is : (a n heard : ℕ) (us : List Update) (b : Board) → ((over : Bool) → P (count_by false over a n heard us b))
       → ((over : Bool) → overflows n us b ≡ over → P (count_by true over a n heard us b)) → P (count a n heard us b)
   unfolding count
-  count-is a n heard us b none one = go (any_waiting b.insts)
+  count_is a n heard us b none one = go (any_waiting b.insts)
     where
       go : (w : Bool) → P (count_by w (overflows n us b) a n heard us b)
       go false = none (overflows n us b)
@@ -36,17 +36,17 @@ module _ (P : Out → Type 0) where
       go false false p q = gap (omega (arith, leb-false n (b.H + 1) q))
 
   -- the five tests of a snapshot
-  pub snap-by : (d S : ℕ) (l : Lists) (b : Board)
+  pub snap_by_lem : (d S : ℕ) (l : Lists) (b : Board)
       → ((f w below above wide : Bool) → ltb (look d b.insts) (length b.insts) ≡ f → ltb S b.B ≡ below → ltb b.H S ≡ above → too_wide l ≡ wide
       → P (snap_by f w below above wide (look d b.insts) S l b))
       → P (snap d S l b)
   unfolding snap
-  snap-by d S l b h =
+  snap_by_lem d S l b h =
       h (ltb (look d b.insts) (length b.insts)) (at (look d b.insts) b).waiting (ltb S b.B) (ltb b.H S) (too_wide l) refl refl refl refl
 
   -- refused, or taken
-  pub snap-is : (d S : ℕ) (l : Lists) (b : Board) → ((a : ℕ) → 5 ≤ a → a ≤ 9 → P (out a b)) → P (take (look d b.insts) S l b) → P (snap d S l b)
-  snap-is d S l b refuses taken = snap-by d S l b go
+  pub snap_is : (d S : ℕ) (l : Lists) (b : Board) → ((a : ℕ) → 5 ≤ a → a ≤ 9 → P (out a b)) → P (take (look d b.insts) S l b) → P (snap d S l b)
+  snap_is d S l b refuses taken = snap_by_lem d S l b go
     where
       go : (f w below above wide : Bool) → ltb (look d b.insts) (length b.insts) ≡ f → ltb S b.B ≡ below → ltb b.H S ≡ above → too_wide l ≡ wide
           → P (snap_by f w below above wide (look d b.insts) S l b)
@@ -58,10 +58,10 @@ module _ (P : Out → Type 0) where
       go true true false false false _ _ _ _ = taken
 
   -- the replay left a book, or broke
-  pub take-is : (i S : ℕ) (l : Lists) (b : Board) → ((c : Lists) → run (after i S b.queue) l ≡ leaves c → P (replayed i (leaves c) b))
+  pub take_is : (i S : ℕ) (l : Lists) (b : Board) → ((c : Lists) → run (after i S b.queue) l ≡ leaves c → P (replayed i (leaves c) b))
       → ((r : ℕ) → run (after i S b.queue) l ≡ breach r → P (replayed i (breach r) b)) → P (take i S l b)
   unfolding take
-  take-is i S l b left broke = go (run (after i S b.queue) l) refl
+  take_is i S l b left broke = go (run (after i S b.queue) l) refl
     where
       go : (o : Outcome Lists) → run (after i S b.queue) l ≡ o → P (replayed i o b)
       go (leaves c) e = left c e

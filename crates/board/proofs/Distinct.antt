@@ -12,13 +12,13 @@ use borrow.Author.Tests.{eqb-true, eq-eqb, lt-ltb, not-true}
 use Rattle.board.specs.Board.{Inst, ids_of, any_waiting, waiting_in, look, no_inst}
 use Rattle.board.specs.Sound.{among, distinct}
 use Rattle.board.specs.Laws.{AnyIsSome, FoundAtOwnIndex}
-use Rattle.board.proofs.Tested.{both, tested-sound}
+use Rattle.board.proofs.Tested.{both, tested_sound}
 
 -- a SecurityID that stands at an index is among them
-among-at : (xs : List Inst) (i : ℕ) → i < length xs → among (get_or xs i no_inst).id (ids_of xs) ≡ true
-among-at [] i h = absurd (omega arith)
-among-at (x ∷ xs) zero h = rw (eq-eqb x.id x.id refl)
-among-at (x ∷ xs) (suc i) h = go (eqb x.id (get_or xs i no_inst).id) (among-at xs i (le_of_suc-le-suc h))
+among_at : (xs : List Inst) (i : ℕ) → i < length xs → among (get_or xs i no_inst).id (ids_of xs) ≡ true
+among_at [] i h = absurd (omega arith)
+among_at (x ∷ xs) zero h = rw (eq-eqb x.id x.id refl)
+among_at (x ∷ xs) (suc i) h = go (eqb x.id (get_or xs i no_inst).id) (among_at xs i (le_of_suc-le-suc h))
   where
     go : (t : Bool) {u : Bool} → u ≡ true → t || u ≡ true
     go true e = refl
@@ -37,16 +37,16 @@ look_at (x ∷ xs) d (suc i) h =
 
     go : (t : Bool) → eqb x.id e ≡ t → among x.id (ids_of xs) ≡ false → look e xs ≡ i → cond t 0 (look e xs + 1) ≡ suc i
     go true q a l =
-        absurd (true≢false (sym (among-at xs i (le_of_suc-le-suc h)) ∙ ap (λ (k : ℕ). among k (ids_of xs)) (sym (eqb-true x.id e q)) ∙ a))
+        absurd (true≢false (sym (among_at xs i (le_of_suc-le-suc h)) ∙ ap (λ (k : ℕ). among k (ids_of xs)) (sym (eqb-true x.id e q)) ∙ a))
     go false q a l = add-one (look e xs) ∙ ap suc l
 
-pub found-at-own-index : FoundAtOwnIndex
-found-at-own-index b s i h = look_at b.insts (tested-sound b s).apart i h
+pub found_at_own_index : FoundAtOwnIndex
+found_at_own_index b s i h = look_at b.insts (tested_sound b s).apart i h
 
-pub any-is-some : AnyIsSome
+pub any_is_some : AnyIsSome
 unfolding any_waiting waiting_in
-any-is-some [] = refl
-any-is-some (x ∷ xs) = go x.waiting (any-is-some xs)
+any_is_some [] = refl
+any_is_some (x ∷ xs) = go x.waiting (any_is_some xs)
   where
     go : (w : Bool) → any_waiting xs ≡ ltb 0 (waiting_in xs) → w || any_waiting xs ≡ ltb 0 (cond w 1 0 + waiting_in xs)
     go true h = sym (lt-ltb 0 (1 + waiting_in xs) (omega arith))

@@ -20,34 +20,34 @@ use Rattle.board.specs.Ranges.{entry_fine, none_fine, update_fine, shown_fine, h
 use Rattle.board.specs.Sound.{distinct}
 use Rattle.board.specs.Loss.{order}
 use Rattle.board.specs.ForAll.{bare, emptied, SpeaksOfAll, ForAllSpeaksOfAll, FromEmpty, stream, received, ChannelEmptied, breaks, BrokenBefore}
-use Rattle.board.proofs.Running.{run-to}
-use Rattle.board.proofs.Finding.{length_ids, mine-aimed}
-use Rattle.board.proofs.Giving.{hits, gives-ids, gives_at, live-before, live-ran}
-use Rattle.board.proofs.Cases.{count-is, number_is}
-use Rattle.board.proofs.Staying.{same-feed, same_length, same-look}
-use Rattle.board.proofs.Recovery.{live-followed}
-use Rattle.board.proofs.Others.{at-settled}
-use Rattle.board.proofs.Streams.{numbered-from-one, never-breaks}
+use Rattle.board.proofs.Running.{run_to}
+use Rattle.board.proofs.Finding.{length_ids, mine_aimed}
+use Rattle.board.proofs.Giving.{hits, gives_ids, gives_at, live_before, live_ran}
+use Rattle.board.proofs.Cases.{count_is, number_is}
+use Rattle.board.proofs.Staying.{same_feed, same_length, same_look}
+use Rattle.board.proofs.Recovery.{live_followed}
+use Rattle.board.proofs.Others.{at_settled}
+use Rattle.board.proofs.Streams.{numbered_from_one, never_breaks}
 
 module _ (u : Update) (all : for_all u ≡ true) where
   -- it is neither a bid nor an offer
-  empties-book : (b : Lists) → applied b u ≡ leaves empty
+  empties_book : (b : Lists) → applied b u ≡ leaves empty
   unfolding applied
-  empties-book b = rw (eqb-true u.what empty_of_all all)
+  empties_book b = rw (eqb-true u.what empty_of_all all)
 
-  hit-empties : (x : Inst) → hit u x ≡ emptied x
+  hit_empties : (x : Inst) → hit u x ≡ emptied x
   unfolding hit
-  hit-empties x = ap (λ (o : Outcome Lists). cond x.waiting x (landed x o)) (empties-book x.book)
+  hit_empties x = ap (λ (o : Outcome Lists). cond x.waiting x (landed x o)) (empties_book x.book)
 
-  map-empties : (xs : List Inst) → map (hit u) xs ≡ map emptied xs
-  map-empties [] = refl
-  map-empties (x ∷ xs) = ap (◌∷ map (hit u) xs) (hit-empties x) ∙ ap (emptied x ∷◌) (map-empties xs)
+  map_empties : (xs : List Inst) → map (hit u) xs ≡ map emptied xs
+  map_empties [] = refl
+  map_empties (x ∷ xs) = ap (◌∷ map (hit u) xs) (hit_empties x) ∙ ap (emptied x ∷◌) (map_empties xs)
 
   gives_all : (b : Board) → give u b ≡ with_insts (map emptied b.insts) b
   unfolding give
   gives_all b =
       ap (λ (a : Bool). with_insts (cond a (map (hit u) b.insts) (set b.insts u.who (hit u (at u.who b)))) b) all
-      ∙ ap (λ (xs : List Inst). with_insts xs b) (map-empties b.insts)
+      ∙ ap (λ (xs : List Inst). with_insts xs b) (map_empties b.insts)
 
   joins : (n : ℕ) (xs : List Inst) → 1 ≤ length xs → (us : List Update)
       → joining n (length xs) (aimed xs u ∷ us) ≡ record { number = n; update = aimed xs u } ∷ joining n (length xs) us
@@ -63,42 +63,42 @@ module _ (u : Update) (all : for_all u ≡ true) where
   speaks : (i : ℕ) → speaks_of i u ≡ true
   speaks i = ap (λ (a : Bool). a || eqb u.who i) all
 
-  is-due : (i S n : ℕ) (t : Bool) → ltb S n ≡ t → speaks_of i u && ltb S n ≡ t
-  is-due i S n t e = ap (λ (a : Bool). a && ltb S n) (speaks i) ∙ e
+  is_due_lem : (i S n : ℕ) (t : Bool) → ltb S n ≡ t → speaks_of i u && ltb S n ≡ t
+  is_due_lem i S n t e = ap (λ (a : Bool). a && ltb S n) (speaks i) ∙ e
 
-  pub speaks-of-all : SpeaksOfAll u
+  pub speaks_of_all : SpeaksOfAll u
   unfolding after mine
-  speaks-of-all =
+  speaks_of_all =
       record {
         empties = gives_all;
-        joins-once = joins;
-        replayed = λ i S n qs l. ap (due i S n qs) (is-due i S n true (lt-ltb S n l));
-        not-replayed = λ i S n qs l. ap (due i S n qs) (is-due i S n false (le-ltb S n l));
+        joins_once = joins;
+        replayed = λ i S n qs l. ap (due i S n qs) (is_due_lem i S n true (lt-ltb S n l));
+        not_replayed = λ i S n qs l. ap (due i S n qs) (is_due_lem i S n false (le-ltb S n l));
         read = λ d us. ap (λ (t : Bool). cond t (u ∷ mine d us) (mine d us)) (speaks d);
       }
 
-pub for-all-speaks-of-all : ForAllSpeaksOfAll
-for-all-speaks-of-all u all = speaks-of-all u all
+pub for_all_speaks_of_all : ForAllSpeaksOfAll
+for_all_speaks_of_all u all = speaks_of_all u all
 
 -- Behind a message that has it, one that is Live has what the entries behind it make of an empty book.
 
 -- an instrument that is Live once emptied has an empty book
-emptied-book : (x : Inst) → (emptied x).waiting ≡ false → (emptied x).book ≡ empty
-emptied-book x = go x.waiting refl
+emptied_book : (x : Inst) → (emptied x).waiting ≡ false → (emptied x).book ≡ empty
+emptied_book x = go x.waiting refl
   where
     go : (w : Bool) → x.waiting ≡ w → (cond w x (bare x)).waiting ≡ false → (cond w x (bare x)).book ≡ empty
     go true e l = absurd (true≢false (sym e ∙ l))
     go false e l = refl
 
 -- what instruments get of a message: the entries before it, it, and those behind it
-gives-parts : (xs : List Inst) (us : List Update) (u : Update) (vs : List Update) (b : Board)
+gives_parts : (xs : List Inst) (us : List Update) (u : Update) (vs : List Update) (b : Board)
     → gives (map (aimed xs) (us ++ u ∷ vs)) b ≡ gives (map (aimed xs) vs) (gives (aimed xs u ∷ []) (gives (map (aimed xs) us) b))
 unfolding gives
-gives-parts xs [] u vs b = refl
-gives-parts xs (v ∷ us) u vs b = gives-parts xs us u vs (give (aimed xs v) b)
+gives_parts xs [] u vs b = refl
+gives_parts xs (v ∷ us) u vs b = gives_parts xs us u vs (give (aimed xs v) b)
 
-gives-length : (us : List Update) (b : Board) → length (gives us b).insts ≡ length b.insts
-gives-length us b = length_ids (gives us b).insts b.insts (gives-ids us b)
+gives_length : (us : List Update) (b : Board) → length (gives us b).insts ≡ length b.insts
+gives_length us b = length_ids (gives us b).insts b.insts (gives_ids us b)
 
 module _ (i n heard : ℕ) (xs : List Inst) (us : List Update) (u : Update) (vs : List Update) (all : for_all u ≡ true) where
   ws : List Update
@@ -108,36 +108,36 @@ module _ (i n heard : ℕ) (xs : List Inst) (us : List Update) (u : Update) (vs 
   abbrev Built : Inst → Type 0
   Built x = x.waiting ≡ false → run (mine i (map (aimed xs) vs)) empty ≡ leaves x.book
 
-  given-built : (b : Board) → i < length b.insts → Built (at i (gives ws b))
+  given_built : (b : Board) → i < length b.insts → Built (at i (gives ws b))
   unfolding ws gives
-  given-built b l =
+  given_built b l =
       let c = gives (map (aimed xs) us) b in
       let e = gives (aimed xs u ∷ []) c in
       let own = mine i (map (aimed xs) vs) in
-      let inside : i < length e.insts = rw (gives-length (aimed xs u ∷ []) c, gives-length (map (aimed xs) us) b) l in
+      let inside : i < length e.insts = rw (gives_length (aimed xs u ∷ []) c, gives_length (map (aimed xs) us) b) l in
       let p : at i e ≡ emptied (at i c) = ap (at i) (gives_all (aimed xs u) all c) ∙ get_or-map emptied c.insts i no_inst in
       let q : at i (gives ws b) ≡ hits own (emptied (at i c)) =
-      ap (at i) (gives-parts xs us u vs b) ∙ gives_at (map (aimed xs) vs) i e inside ∙ ap (hits own) p in
+      ap (at i) (gives_parts xs us u vs b) ∙ gives_at (map (aimed xs) vs) i e inside ∙ ap (hits own) p in
       subst Built (sym q)
       (λ live.
-      let w = live-before own (emptied (at i c)) live in
-      subst (λ (k : Lists). run own k ≡ leaves (hits own (emptied (at i c))).book) (emptied-book (at i c) w) (live-ran own (emptied (at i c)) w live))
+      let w = live_before own (emptied (at i c)) live in
+      subst (λ (k : Lists). run own k ≡ leaves (hits own (emptied (at i c))).book) (emptied_book (at i c) w) (live_ran own (emptied (at i c)) w live))
 
-  settled-built : (w : Bool) (b : Board) → i < length b.insts → Built (at i (settled w (gives ws b)))
-  settled-built w b l = subst Built (sym (at-settled i w (gives ws b) (gives ws b) refl)) (given-built b l)
+  settled_built : (w : Bool) (b : Board) → i < length b.insts → Built (at i (settled w (gives ws b)))
+  settled_built w b l = subst Built (sym (at_settled i w (gives ws b) (gives ws b) refl)) (given_built b l)
 
-  count-built : (a : ℕ) (b : Board) → i < length b.insts → Built (at i (count a n heard ws b).board)
-  count-built a b l =
-      count-is (λ o. Built (at i o.board)) a n heard ws b (λ _. settled-built false (counted n heard b) l) (λ over _. joins over)
+  count_built : (a : ℕ) (b : Board) → i < length b.insts → Built (at i (count a n heard ws b).board)
+  count_built a b l =
+      count_is (λ o. Built (at i o.board)) a n heard ws b (λ _. settled_built false (counted n heard b) l) (λ over _. joins over)
     where
       joins : (over : Bool) → Built (at i (settled true (gives ws (joined over n ws (counted n heard b)))))
-      joins true = settled-built true (joined true n ws (counted n heard b)) l
-      joins false = settled-built true (joined false n ws (counted n heard b)) l
+      joins true = settled_built true (joined true n ws (counted n heard b)) l
+      joins false = settled_built true (joined false n ws (counted n heard b)) l
 
-  number-built : (b : Board) → b.H < n → i < length b.insts → Built (at i (number n heard ws b).board)
-  number-built b h l =
-      number_is (λ o. Built (at i o.board)) n heard ws b (λ _ old. absurd (omega (arith, old))) (λ _. count-built 0 b l)
-      (λ _. count-built 1 (cleared n b) (rw (length-map b.insts clear) l))
+  number_built : (b : Board) → b.H < n → i < length b.insts → Built (at i (number n heard ws b).board)
+  number_built b h l =
+      number_is (λ o. Built (at i o.board)) n heard ws b (λ _ old. absurd (omega (arith, old))) (λ _. count_built 0 b l)
+      (λ _. count_built 1 (cleared n b) (rw (length-map b.insts clear) l))
 
 pub from_empty : FromEmpty
 unfolding feed ws
@@ -146,26 +146,26 @@ from_empty d n heard us u vs b all h live =
     let c = (feed m b).board in
     let xs = b.insts in
     let i = look d xs in
-    let s = same-feed m b in
-    let found : look d c.insts ≡ i = same-look d c b s in
-    let inside : i < length xs = rw (← found, ← (same_length c b s)) (live-followed d c live) in
-    sym (run-to i (mine d vs) empty)
-    ∙ ap (λ (w : List Update). run w empty) (sym (mine-aimed d xs inside vs))
+    let s = same_feed m b in
+    let found : look d c.insts ≡ i = same_look d c b s in
+    let inside : i < length xs = rw (← found, ← (same_length c b s)) (live_followed d c live) in
+    sym (run_to i (mine d vs) empty)
+    ∙ ap (λ (w : List Update). run w empty) (sym (mine_aimed d xs inside vs))
     ∙ subst (λ (k : ℕ). (at k c).waiting ≡ false → run (mine i (map (aimed xs) vs)) empty ≡ leaves (at k c).book) (sym found)
-    (number-built i n heard xs us u vs all b h inside) live
+    (number_built i n heard xs us u vs all b h inside) live
 
-pub channel-emptied : ChannelEmptied
+pub channel_emptied : ChannelEmptied
 unfolding stream received book_at mine run applied after_action after_new any_waiting look joining hit give gives count number entries_of after take snap feed distinct message_fine head_fine update_fine shown_fine entry_fine none_fine
-channel-emptied =
+channel_emptied =
     record {
-      numbers = numbered-from-one stream refl;
-      never-7 = never-breaks stream 7 (record { bids = order 5 2402 ∷ []; offers = [] }) refl;
-      never-9 = never-breaks stream 9 (record { bids = order 6 1101 ∷ []; offers = [] }) refl;
-      right-7 = (
+      numbers = numbered_from_one stream refl;
+      never_7 = never_breaks stream 7 (record { bids = order 5 2402 ∷ []; offers = [] }) refl;
+      never_9 = never_breaks stream 9 (record { bids = order 6 1101 ∷ []; offers = [] }) refl;
+      right_7 = (
         (λ _. (0, omega arith, refl)),
         ((λ _ _. refl), ((λ _. (1, omega arith, refl)), ((λ _. (2, omega arith, refl)), ((λ _ e. absurd (omega (arith, e))), ((λ _. (3, omega arith, refl)), tt))))),
       );
-      right-9 = (
+      right_9 = (
         (λ _. (0, omega arith, refl)),
         ((λ _ e. absurd (omega (arith, e))), ((λ _. (1, omega arith, refl)), ((λ _. (2, omega arith, refl)), ((λ _ _. refl), ((λ _. (3, omega arith, refl)), tt))))),
       );
@@ -181,6 +181,6 @@ channel-emptied =
       last = refl;
     }
 
-pub broken-before : BrokenBefore
+pub broken_before : BrokenBefore
 unfolding breaks applied after_action after_new any_waiting look joining hit give gives count number entries_of run after take snap feed
-broken-before = record { answered = refl; waits = refl; live = refl }
+broken_before = record { answered = refl; waits = refl; live = refl }

@@ -12,14 +12,14 @@ use Rattle.board.specs.Demand.{book_at}
 use Rattle.board.specs.Ranges.{entry_fine, none_fine, update_fine, shown_fine, head_fine, message_fine}
 use Rattle.board.specs.Sound.{distinct}
 use Rattle.board.specs.Overflow.{level, stream, received, RecoversPastOverflow}
-use Rattle.board.proofs.Streams.{numbered-from-one, never-breaks}
+use Rattle.board.proofs.Streams.{numbered_from_one, never_breaks}
 
-pub recovers-past-overflow : RecoversPastOverflow
+pub recovers_past_overflow : RecoversPastOverflow
 unfolding stream received book_at mine run applied after_action after_new after_change after_delete any_waiting look joining hit give gives count number entries_of after take snap feed distinct message_fine head_fine update_fine shown_fine entry_fine none_fine
-recovers-past-overflow =
+recovers_past_overflow =
     record {
-      numbers = numbered-from-one stream refl;
-      never = never-breaks stream 7 (record { bids = level 9 ∷ []; offers = level 10 ∷ [] }) refl;
+      numbers = numbered_from_one stream refl;
+      never = never_breaks stream 7 (record { bids = level 9 ∷ []; offers = level 10 ∷ [] }) refl;
       right = (
         (λ _. (0, omega arith, refl)),
         (

@@ -12,28 +12,28 @@ pub then_same : (f g : Lists → Outcome Lists) → ((b : Lists) → f b ≡ g b
 then_same f g h (leaves b) = h b
 then_same f g h (breach r) = refl
 
-pub then-leaves : (o : Outcome Lists) → and_then o leaves ≡ o
-then-leaves (leaves b) = refl
-then-leaves (breach r) = refl
+pub then_leaves : (o : Outcome Lists) → and_then o leaves ≡ o
+then_leaves (leaves b) = refl
+then_leaves (breach r) = refl
 
-then-then : (o : Outcome Lists) (f g : Lists → Outcome Lists) → and_then o (λ b. and_then (f b) g) ≡ and_then (and_then o f) g
-then-then (leaves b) f g = refl
-then-then (breach r) f g = refl
+then_then : (o : Outcome Lists) (f g : Lists → Outcome Lists) → and_then o (λ b. and_then (f b) g) ≡ and_then (and_then o f) g
+then_then (leaves b) f g = refl
+then_then (breach r) f g = refl
 
-pub run-append : (us vs : List Update) (b : Lists) → run (us ++ vs) b ≡ and_then (run us b) (run vs)
+pub run_append : (us vs : List Update) (b : Lists) → run (us ++ vs) b ≡ and_then (run us b) (run vs)
 unfolding run
-run-append [] vs b = refl
-run-append (u ∷ us) vs b =
-    then_same (run (us ++ vs)) (λ c. and_then (run us c) (run vs)) (run-append us vs) (applied b u) ∙ then-then (applied b u) (run us) (run vs)
+run_append [] vs b = refl
+run_append (u ∷ us) vs b =
+    then_same (run (us ++ vs)) (λ c. and_then (run us c) (run vs)) (run_append us vs) (applied b u) ∙ then_then (applied b u) (run us) (run vs)
 
 -- who an entry is for plays no part on a book
-applied-to : (i : ℕ) (b : Lists) (u : Update) → applied b (to i u) ≡ applied b u
+applied_to : (i : ℕ) (b : Lists) (u : Update) → applied b (to i u) ≡ applied b u
 unfolding applied
-applied-to i b u = refl
+applied_to i b u = refl
 
-pub run-to : (i : ℕ) (us : List Update) (b : Lists) → run (map (to i) us) b ≡ run us b
+pub run_to : (i : ℕ) (us : List Update) (b : Lists) → run (map (to i) us) b ≡ run us b
 unfolding run
-run-to i [] b = refl
-run-to i (u ∷ us) b =
-    ap (λ (o : Outcome Lists). and_then o (run (map (to i) us))) (applied-to i b u)
-    ∙ then_same (run (map (to i) us)) (run us) (run-to i us) (applied b u)
+run_to i [] b = refl
+run_to i (u ∷ us) b =
+    ap (λ (o : Outcome Lists). and_then o (run (map (to i) us))) (applied_to i b u)
+    ∙ then_same (run (map (to i) us)) (run us) (run_to i us) (applied b u)

@@ -21,18 +21,18 @@ numbered_from n (numbered m heard us ∷ ms) = eqb m (suc n) && numbered_from (s
 numbered_from n (snapshot h us ∷ ms) = false
 numbered_from n (refused v ∷ ms) = false
 
-numbered-from : (n : ℕ) (ms : List Message) → numbered_from n ms ≡ true → (k j : ℕ) → k < length ms → j ≡ n + k
+numbered_from_lem : (n : ℕ) (ms : List Message) → numbered_from n ms ≡ true → (k j : ℕ) → k < length ms → j ≡ n + k
     → (heard : ℕ) × (us : List Update) × (message_at ms k ≡ numbered (suc j) heard us)
-numbered-from n [] t k j h e = absurd (omega arith)
-numbered-from n (numbered m heard us ∷ ms) t zero j h e =
+numbered_from_lem n [] t k j h e = absurd (omega arith)
+numbered_from_lem n (numbered m heard us ∷ ms) t zero j h e =
     (heard, us, ap (λ (i : ℕ). numbered i heard us) (eqb-true m (suc n) (both (eqb m (suc n)) (numbered_from (suc n) ms) t).0 ∙ ap suc (omega arith)))
-numbered-from n (numbered m heard us ∷ ms) t (suc k) j h e =
-    numbered-from (suc n) ms (both (eqb m (suc n)) (numbered_from (suc n) ms) t).1 k j (omega arith) (omega arith)
-numbered-from n (snapshot s us ∷ ms) t k j h e = absurd (false≢true t)
-numbered-from n (refused v ∷ ms) t k j h e = absurd (false≢true t)
+numbered_from_lem n (numbered m heard us ∷ ms) t (suc k) j h e =
+    numbered_from_lem (suc n) ms (both (eqb m (suc n)) (numbered_from (suc n) ms) t).1 k j (omega arith) (omega arith)
+numbered_from_lem n (snapshot s us ∷ ms) t k j h e = absurd (false≢true t)
+numbered_from_lem n (refused v ∷ ms) t k j h e = absurd (false≢true t)
 
-pub numbered-from-one : (ms : List Message) → numbered_from 0 ms ≡ true → NumberedFromOne ms
-numbered-from-one ms t k h = numbered-from 0 ms t k k h (omega arith)
+pub numbered_from_one : (ms : List Message) → numbered_from 0 ms ≡ true → NumberedFromOne ms
+numbered_from_one ms t k h = numbered_from_lem 0 ms t k k h (omega arith)
 
 -- ---- where it gives a book at its end, it has given one all along
 before : (o : Outcome Lists) (f : Lists → Outcome Lists) (b : Lists) → and_then o f ≡ leaves b → (c : Lists) × (o ≡ leaves c)
@@ -51,5 +51,5 @@ unbroken ms d (suc n) b e k h =
     go true q earlier = earlier (leb-true k n q)
     go false q earlier = let l : k ≡ suc n = omega (arith, leb-false k n q) in (b, ap (book_at ms d) l ∙ e)
 
-pub never-breaks : (ms : List Message) (d : ℕ) (b : Lists) → book_at ms d (length ms) ≡ leaves b → NeverBreaks ms d
-never-breaks ms d b e n h = unbroken ms d (length ms) b e n h
+pub never_breaks : (ms : List Message) (d : ℕ) (b : Lists) → book_at ms d (length ms) ≡ leaves b → NeverBreaks ms d
+never_breaks ms d b e n h = unbroken ms d (length ms) b e n h

@@ -9,17 +9,17 @@ use lib.ListN.{length}
 use borrow.Author.Tests.{ltb-true}
 use Rattle.book.specs.Rules.{Lists}
 use Rattle.book.specs.declared.Update.{Update}
-use Rattle.book.proofs.Tests.{by-test}
+use Rattle.book.proofs.Tests.{by_test}
 use Rattle.message.specs.Message.{Head, snapshot}
 use Rattle.board.specs.Board.{Inst, Board, Out, any_waiting, look, at, put, broken, settled}
 use Rattle.board.specs.Snapshot.{shown, live, take, too_wide, snap_by, snap}
 use Rattle.board.specs.Feed.{feed}
 use Rattle.board.specs.Calls.{inst}
 use Rattle.board.specs.Laws.{TakenIsLive, BrokeIsWaiting, SnapshotKeepsDate}
-use Rattle.board.proofs.Cases.{snap-by, snap-is, take-is}
-use Rattle.board.proofs.Giving.{at-put-same}
-use Rattle.board.proofs.Others.{at-settled}
-use Rattle.board.proofs.Staying.{same-feed, same-look}
+use Rattle.board.proofs.Cases.{snap_by_lem, snap_is, take_is}
+use Rattle.board.proofs.Giving.{at_put_same}
+use Rattle.board.proofs.Others.{at_settled}
+use Rattle.board.proofs.Staying.{same_feed, same_look}
 
 -- what an answer says of the instrument at index i
 pub record Own (i : ℕ) (o : Out) : Type 0 where
@@ -27,19 +27,19 @@ pub record Own (i : ℕ) (o : Out) : Type 0 where
   pub broke : o.answer ≡ 10 → (at i o.board).waiting ≡ true
 
 module _ (i : ℕ) (b : Board) (l : i < length b.insts) where
-  put-own : (x : Inst) → at i (settled true (put i x b)) ≡ x
-  put-own x = at-settled i true (put i x b) (put i x b) refl ∙ at-put-same i x b l
+  put_own : (x : Inst) → at i (settled true (put i x b)) ≡ x
+  put_own x = at_settled i true (put i x b) (put i x b) refl ∙ at_put_same i x b l
 
   take_own : (S : ℕ) (s : Lists) → Own i (take i S s b)
   take_own S s =
-      take-is (Own i) i S s b
+      take_is (Own i) i S s b
       (λ c _.
-      let e = put-own (live (at i b) c) in
+      let e = put_own (live (at i b) c) in
       record { taken = λ _. (ap (λ (x : Inst). x.waiting) e, ap (λ (x : Inst). x.reason) e); broke = λ q. absurd (omega arith) })
-      (λ r _. record { taken = λ q. absurd (omega arith); broke = λ _. ap (λ (x : Inst). x.waiting) (put-own (broken (at i b) r)) })
+      (λ r _. record { taken = λ q. absurd (omega arith); broke = λ _. ap (λ (x : Inst). x.waiting) (put_own (broken (at i b) r)) })
 
-snap-own : (d S : ℕ) (s : Lists) (b : Board) → Own (look d b.insts) (snap d S s b)
-snap-own d S s b = snap-by (Own i) d S s b go
+snap_own : (d S : ℕ) (s : Lists) (b : Board) → Own (look d b.insts) (snap d S s b)
+snap_own d S s b = snap_by_lem (Own i) d S s b go
   where
     i : ℕ
     i = look d b.insts
@@ -56,28 +56,28 @@ snap-own d S s b = snap-by (Own i) d S s b go
 module _ (h : Head) (us : List Update) (b : Board) where
   own : Own (look h.id b.insts) (feed (snapshot h us) b)
   unfolding feed
-  own = snap-own h.id h.last (shown us) b
+  own = snap_own h.id h.last (shown us) b
 
-  own-inst : inst h.id (feed (snapshot h us) b).board ≡ at (look h.id b.insts) (feed (snapshot h us) b).board
-  own-inst =
-      ap (λ (i : ℕ). at i (feed (snapshot h us) b).board) (same-look h.id (feed (snapshot h us) b).board b (same-feed (snapshot h us) b))
+  own_inst : inst h.id (feed (snapshot h us) b).board ≡ at (look h.id b.insts) (feed (snapshot h us) b).board
+  own_inst =
+      ap (λ (i : ℕ). at i (feed (snapshot h us) b).board) (same_look h.id (feed (snapshot h us) b).board b (same_feed (snapshot h us) b))
 
-pub taken-is-live : TakenIsLive
-taken-is-live h us b e =
+pub taken_is_live : TakenIsLive
+taken_is_live h us b e =
     let o = (own h us b).taken e in
-    (ap (λ (x : Inst). x.waiting) (own-inst h us b) ∙ o.0, ap (λ (x : Inst). x.reason) (own-inst h us b) ∙ o.1)
+    (ap (λ (x : Inst). x.waiting) (own_inst h us b) ∙ o.0, ap (λ (x : Inst). x.reason) (own_inst h us b) ∙ o.1)
 
-pub broke-is-waiting : BrokeIsWaiting
-broke-is-waiting h us b e = ap (λ (x : Inst). x.waiting) (own-inst h us b) ∙ (own h us b).broke e
+pub broke_is_waiting : BrokeIsWaiting
+broke_is_waiting h us b e = ap (λ (x : Inst). x.waiting) (own_inst h us b) ∙ (own h us b).broke e
 
-pub snapshot-keeps-date : SnapshotKeepsDate
+pub snapshot_keeps_date : SnapshotKeepsDate
 unfolding feed
-snapshot-keeps-date h us b =
-    snap-is (λ o. Dated o.board) h.id h.last (shown us) b (λ _ _ _. (refl, refl))
-    (take-is (λ o. Dated o.board) (look h.id b.insts) h.last (shown us) b (λ c _. put-dated _ _) (λ r _. put-dated _ _))
+snapshot_keeps_date h us b =
+    snap_is (λ o. Dated o.board) h.id h.last (shown us) b (λ _ _ _. (refl, refl))
+    (take_is (λ o. Dated o.board) (look h.id b.insts) h.last (shown us) b (λ c _. put_dated _ _) (λ r _. put_dated _ _))
   where
     Dated : Board → Type 0
     Dated c = (c.H ≡ b.H) × (c.heard ≡ b.heard)
 
-    put-dated : (i : ℕ) (x : Inst) → Dated (settled true (put i x b))
-    put-dated i x = by-test Dated (any_waiting (put i x b).insts) (λ _. (refl, refl)) (λ _. (refl, refl))
+    put_dated : (i : ℕ) (x : Inst) → Dated (settled true (put i x b))
+    put_dated i x = by_test Dated (any_waiting (put i x b).insts) (λ _. (refl, refl)) (λ _. (refl, refl))

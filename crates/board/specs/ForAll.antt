@@ -27,11 +27,11 @@ pub record SpeaksOfAll (u : Update) : Type 0 where
   -- It empties every followed instrument's book; no mark, no reason and nothing else of the board changes.
   pub empties : (b : Board) → give u b ≡ with_insts (map emptied b.insts) b
   -- In the queue it is one entry and counts once, however many instruments there are and whatever else its message says.
-  pub joins-once : (n : ℕ) (xs : List Inst) → 1 ≤ length xs → (us : List Update)
+  pub joins_once : (n : ℕ) (xs : List Inst) → 1 ≤ length xs → (us : List Update)
       → joining n (length xs) (aimed xs u ∷ us) ≡ record { number = n; update = aimed xs u } ∷ joining n (length xs) us
   -- Every instrument's replay meets it, if its number is above S, and none does otherwise.
   pub replayed : (i S n : ℕ) (qs : List Queued) → S < n → after i S (record { number = n; update = u } ∷ qs) ≡ u ∷ after i S qs
-  pub not-replayed : (i S n : ℕ) (qs : List Queued) → n ≤ S → after i S (record { number = n; update = u } ∷ qs) ≡ after i S qs
+  pub not_replayed : (i S n : ℕ) (qs : List Queued) → n ≤ S → after i S (record { number = n; update = u } ∷ qs) ≡ after i S qs
   -- The stream's book of every instrument takes it as its own.
   pub read : (d : ℕ) (us : List Update) → mine d (u ∷ us) ≡ u ∷ mine d us
 
@@ -81,10 +81,10 @@ hut = opened 0 (7 ∷ 9 ∷ [])
 pub record ChannelEmptied : Type 0 where
   -- all that demand 3 supposes, of both
   pub numbers : NumberedFromOne stream
-  pub never-7 : NeverBreaks stream 7
-  pub never-9 : NeverBreaks stream 9
-  pub right-7 : Throughout (Right stream 7) received hut
-  pub right-9 : Throughout (Right stream 9) received hut
+  pub never_7 : NeverBreaks stream 7
+  pub never_9 : NeverBreaks stream 9
+  pub right_7 : Throughout (Right stream 7) received hut
+  pub right_9 : Throughout (Right stream 9) received hut
   pub followed : opens 0 (7 ∷ 9 ∷ []) ≡ true
   pub fine : Throughout InRange received hut
   pub answered : answers received hut ≡ 0 ∷ 4 ∷ 0 ∷ 0 ∷ 4 ∷ 0 ∷ []

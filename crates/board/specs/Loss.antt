@@ -59,8 +59,8 @@ pub record Recovered : Type 0 where
   pub fine : Throughout InRange received hut
   -- counted, a gap, old (M11), S below B, S above H, taken (M12), counted
   pub answered : answers received hut ≡ 0 ∷ 1 ∷ 2 ∷ 7 ∷ 8 ∷ 4 ∷ 0 ∷ []
-  pub m11-base : (calls (take 3 received) hut).B ≡ 2
-  pub m11-last : (calls (take 3 received) hut).H ≡ 3
+  pub m11_base : (calls (take 3 received) hut).B ≡ 2
+  pub m11_last : (calls (take 3 received) hut).H ≡ 3
   -- 7 is Live with the bid that message 3 left, and 9 waits
   pub live : Live 7 (calls received hut)
   pub book : (inst 7 (calls received hut)).book ≡ record { bids = order 2 2401 ∷ []; offers = [] }

@@ -81,7 +81,7 @@ Each P (x ∷ xs) = P x × Each P xs
 pub record SoundEntry (depth : ℕ) (e : Entry) : Type 0 where
   pub price : nat_abs e.price < top
   pub size_low : 1 ≤ e.size
-  pub size-high : e.size ≤ most_size
+  pub size_high : e.size ≤ most_size
   pub moment : e.moment < moments
   pub by : by_fine depth e.by e.more ≡ true
 

@@ -10,7 +10,7 @@ use borrow.Author.Tests.{ltb-true, eqb-true}
 use Rattle.book.specs.declared.Entry.{Entry}
 use Rattle.book.specs.Rules.{most_places, bad_place, Outcome, leaves, breach, is_place, after_new, after_change, after_delete, after_thru, after_from, after_action}
 use Rattle.book.specs.Canonical.{All}
-use Rattle.book.proofs.Tests.{by-test, place_is}
+use Rattle.book.proofs.Tests.{by_test, place_is}
 use Rattle.book.proofs.Every.{all_append, all_take, all_drop}
 
 -- what an outcome leaves, if it leaves anything, has the property Q
@@ -20,10 +20,10 @@ Leaves Q (breach r) = Unit {0}
 
 -- an action leaves what has Q if each of the five lists has it
 module _ (Q : List Entry → Type 0) (l : List Entry) (p : ℕ) where
-  at-leaves : (m : List Entry) → (1 ≤ p → p ≤ length l → Q m) → Leaves Q (cond (is_place p (length l)) (leaves m) (breach bad_place))
-  at-leaves m h = by-test (Leaves Q) (is_place p (length l)) (λ a. let q = place_is p (length l) a in h q.0 q.1) (λ _. tt)
+  at_leaves : (m : List Entry) → (1 ≤ p → p ≤ length l → Q m) → Leaves Q (cond (is_place p (length l)) (leaves m) (breach bad_place))
+  at_leaves m h = by_test (Leaves Q) (is_place p (length l)) (λ a. let q = place_is p (length l) a in h q.0 q.1) (λ _. tt)
 
-  after-leaves : (action : ℕ) (e : Entry)
+  after_leaves : (action : ℕ) (e : Entry)
       → (action ≡ 0 → 1 ≤ p → p ≤ length l + 1 → length l < most_places → Q (take (p - 1) l ++ e ∷ drop (p - 1) l))
       → (action ≡ 1 → 1 ≤ p → p ≤ length l → Q (take (p - 1) l ++ e ∷ drop p l))
       → (1 ≤ p → p ≤ length l → Q (take (p - 1) l ++ drop p l))
@@ -31,32 +31,32 @@ module _ (Q : List Entry → Type 0) (l : List Entry) (p : ℕ) where
       → (1 ≤ p → p ≤ length l → Q (take (p - 1) l))
       → Leaves Q (after_action l action p e)
   unfolding after_action after_new after_change after_delete after_thru after_from
-  after-leaves action e hn hc hd ht hf =
-      by-test (Leaves Q) (eqb action 0)
+  after_leaves action e hn hc hd ht hf =
+      by_test (Leaves Q) (eqb action 0)
       (λ z.
-      by-test (Leaves Q) (is_place p (length l + 1))
+      by_test (Leaves Q) (is_place p (length l + 1))
       (λ a.
       let q = place_is p (length l + 1) a in
-      by-test (Leaves Q) (ltb (length l) most_places) (λ r. hn (eqb-true action 0 z) q.0 q.1 (ltb-true (length l) most_places r)) (λ _. tt))
+      by_test (Leaves Q) (ltb (length l) most_places) (λ r. hn (eqb-true action 0 z) q.0 q.1 (ltb-true (length l) most_places r)) (λ _. tt))
       (λ _. tt))
       (λ _.
-      by-test (Leaves Q) (eqb action 1) (λ z. at-leaves _ (hc (eqb-true action 1 z)))
-      (λ _. by-test (Leaves Q) (eqb action 2) (λ _. at-leaves _ hd)
-      (λ _. by-test (Leaves Q) (eqb action 3) (λ _. at-leaves _ ht) (λ _. by-test (Leaves Q) (eqb action 4) (λ _. at-leaves _ hf) (λ _. tt)))))
+      by_test (Leaves Q) (eqb action 1) (λ z. at_leaves _ (hc (eqb-true action 1 z)))
+      (λ _. by_test (Leaves Q) (eqb action 2) (λ _. at_leaves _ hd)
+      (λ _. by_test (Leaves Q) (eqb action 3) (λ _. at_leaves _ ht) (λ _. by_test (Leaves Q) (eqb action 4) (λ _. at_leaves _ hf) (λ _. tt)))))
 
 -- at most 20 stay at most 20
-pub after-fits : (l : List Entry) (action p : ℕ) (e : Entry) → length l ≤ most_places → Leaves (λ m. length m ≤ most_places) (after_action l action p e)
-after-fits l action p e h =
-    after-leaves (λ m. length m ≤ most_places) l p action e (λ _ a b r. simp (length-append, length-take, length-drop) (omega arith))
+pub after_fits : (l : List Entry) (action p : ℕ) (e : Entry) → length l ≤ most_places → Leaves (λ m. length m ≤ most_places) (after_action l action p e)
+after_fits l action p e h =
+    after_leaves (λ m. length m ≤ most_places) l p action e (λ _ a b r. simp (length-append, length-take, length-drop) (omega arith))
     (λ _ a b. simp (length-append, length-take, length-drop) (omega arith))
     (λ a b. simp (length-append, length-take, length-drop) (omega arith))
     (λ a b. simp length-drop (omega arith))
     (λ a b. simp length-take (omega arith))
 
 -- what holds of all that were held, and of what is new or changed, holds of all that are left
-pub after-all : (P : Entry → Type 0) (l : List Entry) (action p : ℕ) (e : Entry) → All P l → (action ≤ 1 → P e) → Leaves (All P) (after_action l action p e)
-after-all P l action p e h g =
-    after-leaves (All P) l p action e
+pub after_all : (P : Entry → Type 0) (l : List Entry) (action p : ℕ) (e : Entry) → All P l → (action ≤ 1 → P e) → Leaves (All P) (after_action l action p e)
+after_all P l action p e h g =
+    after_leaves (All P) l p action e
     (λ z a b r. all_append P (take (p - 1) l) _ (all_take P (p - 1) l h) (g (omega arith), all_drop P (p - 1) l h))
     (λ z a b. all_append P (take (p - 1) l) _ (all_take P (p - 1) l h) (g (omega arith), all_drop P p l h))
     (λ a b. all_append P (take (p - 1) l) _ (all_take P (p - 1) l h) (all_drop P p l h))

@@ -13,14 +13,14 @@ use Rattle.book.specs.declared.Side.{Side}
 use Rattle.book.specs.declared.Done.{Done}
 use Rattle.book.specs.Rules.{most_places, bad_place, is_place}
 use Rattle.book.specs.Sides.{done, refused, held_at, new_at, change_at, delete_at, delete_thru, delete_from, side_step, breach_of, first_changed}
-use Rattle.book.proofs.Tests.{by-test, place_in, place-zero, place_is}
-use Rattle.book.proofs.Untouched.{side-answered}
+use Rattle.book.proofs.Tests.{by_test, place_in, place_zero, place_is}
+use Rattle.book.proofs.Untouched.{side_answered}
 
 -- the place 0 is a breach of every action
-pub zero-breach : (n action p : ℕ) → p ≡ 0 → bad_place ≡ breach_of n action p
+pub zero_breach : (n action p : ℕ) → p ≡ 0 → bad_place ≡ breach_of n action p
 unfolding breach_of
-zero-breach n action p h =
-    by-test (λ r. bad_place ≡ r) (eqb action 0) (λ _. rw (place-zero p (n + 1) h)) (λ _. rw (place-zero p n h))
+zero_breach n action p h =
+    by_test (λ r. bad_place ≡ r) (eqb action 0) (λ _. rw (place_zero p (n + 1) h)) (λ _. rw (place_zero p n h))
 
 -- a side of n places that does not refuse an action at p
 pub record Fair (n action p : ℕ) : Type 0 where
@@ -29,25 +29,25 @@ pub record Fair (n action p : ℕ) : Type 0 where
   pub room : action ≡ 0 → (p ≤ n + 1) × (n < most_places)
   pub held : 0 < action → p ≤ n
 
-pub no-breach : (n action p : ℕ) → breach_of n action p ≡ 0 → Fair n action p
+pub no_breach : (n action p : ℕ) → breach_of n action p ≡ 0 → Fair n action p
 unfolding breach_of
-no-breach n action p =
-    by-test R (eqb action 0)
+no_breach n action p =
+    by_test R (eqb action 0)
     (λ z.
     let o = eqb-true action 0 z in
-    by-test R (is_place p (n + 1))
+    by_test R (is_place p (n + 1))
     (λ a.
     let q = place_is p (n + 1) a in
-    by-test R (ltb n most_places)
+    by_test R (ltb n most_places)
     (λ b _. record { place = q.0; known = omega arith; room = λ _. (q.1, ltb-true n most_places b); held = λ g. absurd (omega arith) })
     (λ _ x. absurd (omega arith)))
     (λ _ x. absurd (omega arith)))
     (λ z.
     let o = eqb-false action 0 z in
-    by-test R (is_place p n)
+    by_test R (is_place p n)
     (λ a.
     let q = place_is p n a in
-    by-test R (leb action 4)
+    by_test R (leb action 4)
     (λ k _. record { place = q.0; known = leb-true action 4 k; room = λ g. absurd (o g); held = λ _. q.1 })
     (λ _ x. absurd (omega arith)))
     (λ _ x. absurd (omega arith)))
@@ -60,53 +60,53 @@ module _ (s : Side) (action p : ℕ) where
   abbrev For : Done → Type 0
   For d = d.reason ≡ breach_of s.held action p
 
-  new-reason : (e : Entry) → action ≡ 0 → For (new_at s p e)
+  new_reason : (e : Entry) → action ≡ 0 → For (new_at s p e)
   unfolding breach_of new_at
-  new-reason e z =
+  new_reason e z =
       rw z
-      (by-test (λ (d : Done). d.reason ≡ breach_of s.held 0 p) (is_place p (s.held + 1))
-      (λ a. by-test (λ (d : Done). d.reason ≡ breach_of s.held 0 p) (ltb s.held most_places) (λ b. rw (a, b)) (λ b. rw (a, b)))
+      (by_test (λ (d : Done). d.reason ≡ breach_of s.held 0 p) (is_place p (s.held + 1))
+      (λ a. by_test (λ (d : Done). d.reason ≡ breach_of s.held 0 p) (ltb s.held most_places) (λ b. rw (a, b)) (λ b. rw (a, b)))
       (λ a. rw a))
 
-  held-reason : (d : Done) → d.reason ≡ 0 → 0 < action → action ≤ 4 → For (held_at s p d)
+  held_reason : (d : Done) → d.reason ≡ 0 → 0 < action → action ≤ 4 → For (held_at s p d)
   unfolding breach_of
-  held-reason d h z k =
+  held_reason d h z k =
       rw (ne_eqb action 0 (λ g. omega arith), le-leb action 4 k)
-      (by-test (λ (t : Done). t.reason ≡ cond (is_place p s.held) 0 bad_place) (is_place p s.held) (λ a. rw a h) (λ a. rw a))
+      (by_test (λ (t : Done). t.reason ≡ cond (is_place p s.held) 0 bad_place) (is_place p s.held) (λ a. rw a h) (λ a. rw a))
 
-  other-reason : 4 < action → For (refused bad_place s)
+  other_reason : 4 < action → For (refused bad_place s)
   unfolding breach_of
-  other-reason h = rw (ne_eqb action 0 (λ g. omega arith), lt-leb action 4 h) (by-test (λ r. bad_place ≡ r) (is_place p s.held) (λ _. refl) (λ _. refl))
+  other_reason h = rw (ne_eqb action 0 (λ g. omega arith), lt-leb action 4 h) (by_test (λ r. bad_place ≡ r) (is_place p s.held) (λ _. refl) (λ _. refl))
 
-  pub step-reason : (e : Entry) → For (side_step s action p e)
+  pub step_reason : (e : Entry) → For (side_step s action p e)
   unfolding side_step change_at delete_at delete_thru delete_from
-  step-reason e =
-      by-test For (eqb action 0) (λ z. new-reason e (eqb-true action 0 z))
-      (λ o. by-test For (eqb action 1) (λ z. is 1 z (omega arith) (omega arith) _ refl)
-      (λ a. by-test For (eqb action 2) (λ z. is 2 z (omega arith) (omega arith) _ refl)
-      (λ b. by-test For (eqb action 3) (λ z. is 3 z (omega arith) (omega arith) _ refl)
-      (λ c. by-test For (eqb action 4) (λ z. is 4 z (omega arith) (omega arith) _ refl)
+  step_reason e =
+      by_test For (eqb action 0) (λ z. new_reason e (eqb-true action 0 z))
+      (λ o. by_test For (eqb action 1) (λ z. is 1 z (omega arith) (omega arith) _ refl)
+      (λ a. by_test For (eqb action 2) (λ z. is 2 z (omega arith) (omega arith) _ refl)
+      (λ b. by_test For (eqb action 3) (λ z. is 3 z (omega arith) (omega arith) _ refl)
+      (λ c. by_test For (eqb action 4) (λ z. is 4 z (omega arith) (omega arith) _ refl)
       (λ d.
       let q = eqb-false action 0 o in
       let r = eqb-false action 1 a in
       let t = eqb-false action 2 b in
       let u = eqb-false action 3 c in
       let v = eqb-false action 4 d in
-      other-reason (omega arith))))))
+      other_reason (omega arith))))))
     where
       is : (k : ℕ) → eqb action k ≡ true → 0 < k → k ≤ 4 → (d : Done) → d.reason ≡ 0 → For (held_at s p d)
-      is k z h g d r = let q = eqb-true action k z in held-reason d r (omega arith) (omega arith)
+      is k z h g d r = let q = eqb-true action k z in held_reason d r (omega arith) (omega arith)
 
 -- an operation's side and reason make up what it leaves
-pub done-by : {s t : Side} {r q : ℕ} → s ≡ t → r ≡ q → ◌≡◌ {A = Done} (record { side = s; reason = r }) (record { side = t; reason = q })
-done-by h g = cc
+pub done_by : {s t : Side} {r q : ℕ} → s ≡ t → r ≡ q → ◌≡◌ {A = Done} (record { side = s; reason = r }) (record { side = t; reason = q })
+done_by h g = cc
 
 -- a breach leaves the side as it was
-pub step-refused : (s : Side) (action p : ℕ) (e : Entry) → (breach_of s.held action p ≡ 0 → ⊥)
+pub step_refused : (s : Side) (action p : ℕ) (e : Entry) → (breach_of s.held action p ≡ 0 → ⊥)
     → refused (breach_of s.held action p) s ≡ side_step s action p e
-step-refused s action p e h =
-    let r = step-reason s action p e in
-    done-by (sym ((side-answered s action p e).as-was (omega arith))) (sym r)
+step_refused s action p e h =
+    let r = step_reason s action p e in
+    done_by (sym ((side_answered s action p e).as_was (omega arith))) (sym r)
 
 -- the side that an operation leaves, by its places
 pub left_by_lem : {a b : List Entry} {n : ℕ} {d : Done} → a ≡ b → d ≡ record { side = record { places = b; held = n }; reason = 0 }
@@ -116,45 +116,45 @@ left_by_lem h g = cc
 -- what an action that is no breach leaves
 module _ (s : Side) (action p : ℕ) (e : Entry) (clear : breach_of s.held action p ≡ 0) where
   fair : Fair s.held action p
-  fair = no-breach s.held action p clear
+  fair = no_breach s.held action p clear
 
   at_place : 0 < action → is_place p s.held ≡ true
   at_place h = place_in p s.held fair.place (fair.held h)
 
-  pub new-leaves : action ≡ 0 → side_step s action p e ≡ done (s.held + 1) (take (p - 1) s.places ++ e ∷ drop (p - 1) s.places)
+  pub new_leaves : action ≡ 0 → side_step s action p e ≡ done (s.held + 1) (take (p - 1) s.places ++ e ∷ drop (p - 1) s.places)
   unfolding side_step new_at
-  new-leaves z = rw (z, place_in p (s.held + 1) fair.place (fair.room z).0, lt-ltb s.held most_places (fair.room z).1)
+  new_leaves z = rw (z, place_in p (s.held + 1) fair.place (fair.room z).0, lt-ltb s.held most_places (fair.room z).1)
 
-  pub change-leaves : action ≡ 1 → side_step s action p e ≡ done s.held (take (p - 1) s.places ++ e ∷ drop p s.places)
+  pub change_leaves : action ≡ 1 → side_step s action p e ≡ done s.held (take (p - 1) s.places ++ e ∷ drop p s.places)
   unfolding side_step change_at
-  change-leaves z = rw (z, at_place (omega arith))
+  change_leaves z = rw (z, at_place (omega arith))
 
-  delete-leaves : action ≡ 2 → side_step s action p e ≡ done (s.held - 1) (take (p - 1) s.places ++ drop p s.places)
+  delete_leaves : action ≡ 2 → side_step s action p e ≡ done (s.held - 1) (take (p - 1) s.places ++ drop p s.places)
   unfolding side_step delete_at
-  delete-leaves z = rw (z, at_place (omega arith))
+  delete_leaves z = rw (z, at_place (omega arith))
 
-  thru-leaves : action ≡ 3 → side_step s action p e ≡ done (s.held - p) (drop p s.places)
+  thru_leaves : action ≡ 3 → side_step s action p e ≡ done (s.held - p) (drop p s.places)
   unfolding side_step delete_thru
-  thru-leaves z = rw (z, at_place (omega arith))
+  thru_leaves z = rw (z, at_place (omega arith))
 
   -- both remove the places from the first that goes up to p
-  pub gone-leaves : (from : ℕ) → from ≡ first_changed action (p - 1) → 1 < action → action < 4
+  pub gone_leaves : (from : ℕ) → from ≡ first_changed action (p - 1) → 1 < action → action < 4
       → side_step s action p e ≡ done (s.held - (p - from)) (take from s.places ++ drop (from + (p - from)) s.places)
-  gone-leaves from h low high =
-      by-test (λ (k : ℕ). from ≡ k → side_step s action p e ≡ done (s.held - (p - from)) (take from s.places ++ drop (from + (p - from)) s.places))
+  gone_leaves from h low high =
+      by_test (λ (k : ℕ). from ≡ k → side_step s action p e ≡ done (s.held - (p - from)) (take from s.places ++ drop (from + (p - from)) s.places))
       (eqb action 3)
       (λ z q.
       let a : p - from ≡ p = omega arith in
-      rw (a, q, zero-add) (thru-leaves (eqb-true action 3 z)))
+      rw (a, q, zero-add) (thru_leaves (eqb-true action 3 z)))
       (λ z q.
       let o = eqb-false action 3 z in
       let w = fair.place in
       let a : p - from ≡ 1 = omega arith in
       let b : from + 1 ≡ p = omega arith in
       let d : action ≡ 2 = omega arith in
-      rw (a, b, q) (delete-leaves d))
+      rw (a, b, q) (delete_leaves d))
       h
 
-  pub from-leaves : action ≡ 4 → side_step s action p e ≡ done (p - 1) (take (p - 1) s.places)
+  pub from_leaves : action ≡ 4 → side_step s action p e ≡ done (p - 1) (take (p - 1) s.places)
   unfolding side_step delete_from
-  from-leaves z = rw (z, at_place (omega arith))
+  from_leaves z = rw (z, at_place (omega arith))

@@ -23,10 +23,10 @@ module _ (P : Entry → Type 0) where
   all_drop (suc n) (x ∷ l) h = all_drop n l h.1
 
   -- the same by index
-  pub all-at : (l : List Entry) (i : ℕ) (d : Entry) → All P l → i < length l → P (get_or l i d)
-  all-at [] i d h g = absurd (omega arith)
-  all-at (x ∷ l) zero d h g = h.0
-  all-at (x ∷ l) (suc i) d h g = all-at l i d h.1 (le_of_suc-le-suc g)
+  pub all_at : (l : List Entry) (i : ℕ) (d : Entry) → All P l → i < length l → P (get_or l i d)
+  all_at [] i d h g = absurd (omega arith)
+  all_at (x ∷ l) zero d h g = h.0
+  all_at (x ∷ l) (suc i) d h g = all_at l i d h.1 (le_of_suc-le-suc g)
 
   pub all_of : (l : List Entry) (d : Entry) → ((i : ℕ) → i < length l → P (get_or l i d)) → All P l
   all_of [] d h = tt

@@ -8,18 +8,18 @@ use borrow.Author.Tests.{leb-true, le-leb, lt-leb}
 use Rattle.book.specs.Rules.{is_place}
 
 -- a test, by what holds either way
-pub by-test : {A : Type 0} (R : A → Type 0) (t : Bool) {x y : A} → (t ≡ true → R x) → (t ≡ false → R y) → R (cond t x y)
-by-test R true h g = h refl
-by-test R false h g = g refl
+pub by_test : {A : Type 0} (R : A → Type 0) (t : Bool) {x y : A} → (t ≡ true → R x) → (t ≡ false → R y) → R (cond t x y)
+by_test R true h g = h refl
+by_test R false h g = g refl
 
 pub place_in : (p n : ℕ) → 1 ≤ p → p ≤ n → is_place p n ≡ true
 place_in p n a b = rw (le-leb 1 p a, le-leb p n b)
 
-pub place-zero : (p n : ℕ) → p ≡ 0 → is_place p n ≡ false
-place-zero p n h = rw (lt-leb 1 p (omega arith))
+pub place_zero : (p n : ℕ) → p ≡ 0 → is_place p n ≡ false
+place_zero p n h = rw (lt-leb 1 p (omega arith))
 
-pub place-past : (p n : ℕ) → n < p → is_place p n ≡ false
-place-past p n h = rw (le-leb 1 p (omega arith), lt-leb p n h)
+pub place_past : (p n : ℕ) → n < p → is_place p n ≡ false
+place_past p n h = rw (le-leb 1 p (omega arith), lt-leb p n h)
 
 pub place_is : (p n : ℕ) → is_place p n ≡ true → (1 ≤ p) × (p ≤ n)
 place_is p n h = go (leb 1 p) refl h

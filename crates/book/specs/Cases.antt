@@ -18,14 +18,14 @@ pub record SideCases (a b c x : Entry) : Type 0 where
   pub m8 : delete_from (side_of (a ∷ b ∷ c ∷ [])) 2 ≡ record { side = side_of (a ∷ []); reason = 0 }
   pub m9 : new_at (side_of (a ∷ b ∷ c ∷ [])) 5 x ≡ refused 1 (side_of (a ∷ b ∷ c ∷ []))
   pub m10 : (places : List Entry) → new_at (twenty places) 21 x ≡ refused 2 (twenty places)
-  pub m10-past : (places : List Entry) → new_at (twenty places) 22 x ≡ refused 1 (twenty places)
+  pub m10_past : (places : List Entry) → new_at (twenty places) 22 x ≡ refused 1 (twenty places)
 
 -- Ten bids: a new one at 4 shifts the 4th to the 5th and so on to the 11th; with the 7th deleted the 8th moves into the 7th and so on.
 pub record TenBids (a b c d e f g h i j x : Entry) : Type 0 where
-  pub new-at-4 :
+  pub new_at_4 :
       new_at (side_of (a ∷ b ∷ c ∷ d ∷ e ∷ f ∷ g ∷ h ∷ i ∷ j ∷ [])) 4 x
       ≡ record { side = side_of (a ∷ b ∷ c ∷ x ∷ d ∷ e ∷ f ∷ g ∷ h ∷ i ∷ j ∷ []); reason = 0 }
-  pub delete-7 :
+  pub delete_7 :
       delete_at (side_of (a ∷ b ∷ c ∷ d ∷ e ∷ f ∷ g ∷ h ∷ i ∷ j ∷ [])) 7
       ≡ record { side = side_of (a ∷ b ∷ c ∷ d ∷ e ∷ f ∷ h ∷ i ∷ j ∷ []); reason = 0 }
 
@@ -50,5 +50,5 @@ deletes action place = record { who = 0; what = 0; action = action; place = plac
 pub record Drawn : Type 0 where
   pub swept : book_step (book_of (drawn four_bids)) (deletes 3 3) ≡ record { book = book_of (drawn (of 4000 1054 ∷ [])); reason = 0 }
   pub cancelled : book_step (book_of (drawn four_bids)) (deletes 4 1) ≡ record { book = book_of (drawn []); reason = 0 }
-  pub from-3 : book_step (book_of (drawn four_bids)) (deletes 4 3) ≡ record { book = book_of (drawn (take 2 four_bids)); reason = 0 }
-  pub thru-1 : book_step (book_of (drawn four_bids)) (deletes 3 1) ≡ record { book = book_of (drawn (drop 1 four_bids)); reason = 0 }
+  pub from_3 : book_step (book_of (drawn four_bids)) (deletes 4 3) ≡ record { book = book_of (drawn (take 2 four_bids)); reason = 0 }
+  pub thru_1 : book_step (book_of (drawn four_bids)) (deletes 3 1) ≡ record { book = book_of (drawn (drop 1 four_bids)); reason = 0 }

@@ -15,9 +15,9 @@ abbrev all : (ℕ → Bool) → ℕ → Bool
 all f zero = true
 all f (suc n) = all f n && f n
 
-all-at : (f : ℕ → Bool) (n : ℕ) → all f n ≡ true → (k : ℕ) → k < n → f k ≡ true
-all-at f zero h k l = absurd (omega arith)
-all-at f (suc n) h k l = go (all f n) (f n) (leb (suc k) n) refl refl refl h (λ e p. all-at f n e k p)
+all_at : (f : ℕ → Bool) (n : ℕ) → all f n ≡ true → (k : ℕ) → k < n → f k ≡ true
+all_at f zero h k l = absurd (omega arith)
+all_at f (suc n) h k l = go (all f n) (f n) (leb (suc k) n) refl refl refl h (λ e p. all_at f n e k p)
   where
     go : (s t u : Bool) → all f n ≡ s → f n ≡ t → leb (suc k) n ≡ u → s && t ≡ true → (all f n ≡ true → k < n → f k ≡ true) → f k ≡ true
     go true true true a e p q r = r a (leb-true (suc k) n p)
@@ -26,48 +26,48 @@ all-at f (suc n) h k l = go (all f n) (f n) (leb (suc k) n) refl refl refl h (λ
     go false t u a e p q r = absurd (false≢true q)
 
 -- ---- the days of a month
-pub no-month : (l : Bool) (m : ℕ) → 12 < m → days_in l m ≡ 0
+pub no_month : (l : Bool) (m : ℕ) → 12 < m → days_in l m ≡ 0
 unfolding days_in months
-no-month l m h = rw (ne_eqb m 2 (λ e. omega arith)) (get_or-eq_default months 0 h)
+no_month l m h = rw (ne_eqb m 2 (λ e. omega arith)) (get_or-eq_default months 0 h)
 
-pub some-days : (l : Bool) (m : ℕ) → 1 ≤ days_in l m → m ≤ 12
-some-days l m h = go (leb m 12) refl
+pub some_days : (l : Bool) (m : ℕ) → 1 ≤ days_in l m → m ≤ 12
+some_days l m h = go (leb m 12) refl
   where
     go : (t : Bool) → leb m 12 ≡ t → m ≤ 12
     go true e = leb-true m 12 e
-    go false e = absurd (omega (arith, no-month l m (leb-false m 12 e)))
+    go false e = absurd (omega (arith, no_month l m (leb-false m 12 e)))
 
 small : Bool → ℕ → Bool
 small l m = leb (days_in l m) 31
 
-pub most-days : (l : Bool) (m : ℕ) → days_in l m ≤ 31
+pub most_days : (l : Bool) (m : ℕ) → days_in l m ≤ 31
 unfolding days_in months small
-most-days l m = go l (leb m 12) refl
+most_days l m = go l (leb m 12) refl
   where
     go : (l t : Bool) → leb m 12 ≡ t → days_in l m ≤ 31
-    go true true e = leb-true (days_in true m) 31 (all-at (small true) 13 refl m (omega (arith, leb-true m 12 e)))
-    go false true e = leb-true (days_in false m) 31 (all-at (small false) 13 refl m (omega (arith, leb-true m 12 e)))
-    go l false e = omega (arith, no-month l m (leb-false m 12 e))
+    go true true e = leb-true (days_in true m) 31 (all_at (small true) 13 refl m (omega (arith, leb-true m 12 e)))
+    go false true e = leb-true (days_in false m) 31 (all_at (small false) 13 refl m (omega (arith, leb-true m 12 e)))
+    go l false e = omega (arith, no_month l m (leb-false m 12 e))
 
 -- ---- the days before a month
-pub months-rise : (l : Bool) (m : ℕ) → days_to l m ≤ days_to l (suc m)
+pub months_rise : (l : Bool) (m : ℕ) → days_to l m ≤ days_to l (suc m)
 unfolding days_to
-months-rise l m = omega arith
+months_rise l m = omega arith
 
-pub year-end : (l : Bool) → days_to l 13 ≡ year_days l
+pub year_end : (l : Bool) → days_to l 13 ≡ year_days l
 unfolding days_to days_in months year_days
-year-end true = refl
-year-end false = refl
+year_end true = refl
+year_end false = refl
 
-pub first-month : (l : Bool) → days_to l 1 ≡ 0
+pub first_month : (l : Bool) → days_to l 1 ≡ 0
 unfolding days_to days_in months
-first-month true = refl
-first-month false = refl
+first_month true = refl
+first_month false = refl
 
-pub month-most : (l : Bool) (m : ℕ) → days_to l (suc m) ≤ m * 31
+pub month_most : (l : Bool) (m : ℕ) → days_to l (suc m) ≤ m * 31
 unfolding days_to
-month-most l zero = omega (arith, first-month l)
-month-most l (suc m) = omega (arith, month-most l m, most-days l (suc m))
+month_most l zero = omega (arith, first_month l)
+month_most l (suc m) = omega (arith, month_most l m, most_days l (suc m))
 
 -- the table of a year that isn't leap, and a day more after February of one that is
 unfoldable pub table : List ℕ
@@ -76,25 +76,25 @@ table = 0 ∷ 0 ∷ 31 ∷ 59 ∷ 90 ∷ 120 ∷ 151 ∷ 181 ∷ 212 ∷ 243 ∷
 right : Bool → ℕ → Bool
 right l m = eqb (get_or table m 0 + cond (l && leb 3 m) 1 0) (days_to l m)
 
-by-table : (l : Bool) (m : ℕ) → m ≤ 12 → get_or table m 0 + cond (l && leb 3 m) 1 0 ≡ days_to l m
+by_table : (l : Bool) (m : ℕ) → m ≤ 12 → get_or table m 0 + cond (l && leb 3 m) 1 0 ≡ days_to l m
 unfolding days_to days_in months table right
-by-table true m h = eqb-true _ _ (all-at (right true) 13 refl m (omega arith))
-by-table false m h = eqb-true _ _ (all-at (right false) 13 refl m (omega arith))
+by_table true m h = eqb-true _ _ (all_at (right true) 13 refl m (omega arith))
+by_table false m h = eqb-true _ _ (all_at (right false) 13 refl m (omega arith))
 
-pub table-plain : (m : ℕ) → m ≤ 12 → get_or table m 0 ≡ days_to false m
-table-plain m h = omega (arith, by-table false m h)
+pub table_plain : (m : ℕ) → m ≤ 12 → get_or table m 0 ≡ days_to false m
+table_plain m h = omega (arith, by_table false m h)
 
-pub table-leap : (m : ℕ) → 2 < m → m ≤ 12 → get_or table m 0 + 1 ≡ days_to true m
-table-leap m k h = rw (le-leb 3 m k) at (by-table true m h)
+pub table_leap : (m : ℕ) → 2 < m → m ≤ 12 → get_or table m 0 + 1 ≡ days_to true m
+table_leap m k h = rw (le-leb 3 m k) at (by_table true m h)
 
-pub table-first : (l : Bool) (m : ℕ) → m ≤ 2 → get_or table m 0 ≡ days_to l m
-table-first true m h = let e = rw (lt-leb 3 m (omega arith)) at (by-table true m (omega arith)) in omega arith
-table-first false m h = table-plain m (omega arith)
+pub table_first : (l : Bool) (m : ℕ) → m ≤ 2 → get_or table m 0 ≡ days_to l m
+table_first true m h = let e = rw (lt-leb 3 m (omega arith)) at (by_table true m (omega arith)) in omega arith
+table_first false m h = table_plain m (omega arith)
 
-pub year-most : (l : Bool) → year_days l ≤ 366
+pub year_most : (l : Bool) → year_days l ≤ 366
 unfolding year_days
-year-most true = omega arith
-year-most false = omega arith
+year_most true = omega arith
+year_most false = omega arith
 
-pub to-small : (l : Bool) (m : ℕ) → m ≤ 12 → days_to l m ≤ 366
-to-small l m h = omega (arith, rising (days_to l) (months-rise l) m 13 (omega arith), year-end l, year-most l)
+pub to_small : (l : Bool) (m : ℕ) → m ≤ 12 → days_to l m ≤ 366
+to_small l m h = omega (arith, rising (days_to l) (months_rise l) m 13 (omega arith), year_end l, year_most l)

@@ -7,37 +7,37 @@ use borrow.Author.Tests.{leb-true, leb-false, le-leb, lt-leb}
 use lib.Dec.{leb}
 use Rattle.calendar.specs.Calendar.{last_to}
 
-pub last-most : (f : ℕ → ℕ) (n d : ℕ) → last_to f n d ≤ n
+pub last_most : (f : ℕ → ℕ) (n d : ℕ) → last_to f n d ≤ n
 unfolding last_to
-last-most f zero d = omega arith
-last-most f (suc n) d = go (leb (f (suc n)) d) (last-most f n d)
+last_most f zero d = omega arith
+last_most f (suc n) d = go (leb (f (suc n)) d) (last_most f n d)
   where
     go : (t : Bool) → last_to f n d ≤ n → cond t (suc n) (last_to f n d) ≤ suc n
     go true h = omega arith
     go false h = omega arith
 
-pub last-le : (f : ℕ → ℕ) (n d : ℕ) → f 0 ≤ d → f (last_to f n d) ≤ d
+pub last_le : (f : ℕ → ℕ) (n d : ℕ) → f 0 ≤ d → f (last_to f n d) ≤ d
 unfolding last_to
-last-le f zero d h = h
-last-le f (suc n) d h = go (leb (f (suc n)) d) refl (last-le f n d h)
+last_le f zero d h = h
+last_le f (suc n) d h = go (leb (f (suc n)) d) refl (last_le f n d h)
   where
     go : (t : Bool) → leb (f (suc n)) d ≡ t → f (last_to f n d) ≤ d → f (cond t (suc n) (last_to f n d)) ≤ d
     go true e r = leb-true (f (suc n)) d e
     go false e r = r
 
-pub last-next : (f : ℕ → ℕ) (n d : ℕ) → d < f (suc n) → d < f (suc (last_to f n d))
+pub last_next : (f : ℕ → ℕ) (n d : ℕ) → d < f (suc n) → d < f (suc (last_to f n d))
 unfolding last_to
-last-next f zero d h = h
-last-next f (suc n) d h = go (leb (f (suc n)) d) refl (λ l. last-next f n d l)
+last_next f zero d h = h
+last_next f (suc n) d h = go (leb (f (suc n)) d) refl (λ l. last_next f n d l)
   where
     go : (t : Bool) → leb (f (suc n)) d ≡ t → (d < f (suc n) → d < f (suc (last_to f n d))) → d < f (suc (cond t (suc n) (last_to f n d)))
     go true e r = h
     go false e r = r (leb-false (f (suc n)) d e)
 
-pub last-top : (f : ℕ → ℕ) (n d : ℕ) → f n ≤ d → last_to f n d ≡ n
+pub last_top : (f : ℕ → ℕ) (n d : ℕ) → f n ≤ d → last_to f n d ≡ n
 unfolding last_to
-last-top f zero d h = refl
-last-top f (suc n) d h = rw (le-leb (f (suc n)) d h)
+last_top f zero d h = refl
+last_top f (suc n) d h = rw (le-leb (f (suc n)) d h)
 
 module _ (f : ℕ → ℕ) (rises : (j : ℕ) → f j ≤ f (suc j)) where
   pub rising : (j k : ℕ) → j ≤ k → f j ≤ f k
@@ -49,10 +49,10 @@ module _ (f : ℕ → ℕ) (rises : (j : ℕ) → f j ≤ f (suc j)) where
       go false e r = let z : j ≡ suc k = omega (arith, leb-false j k e) in rw z (omega arith)
 
   -- there is only one such step
-  pub last-is : (n k d : ℕ) → k ≤ n → f k ≤ d → d < f (suc k) → last_to f n d ≡ k
+  pub last_is : (n k d : ℕ) → k ≤ n → f k ≤ d → d < f (suc k) → last_to f n d ≡ k
   unfolding last_to
-  last-is zero k d h a b = omega arith
-  last-is (suc n) k d h a b = go (leb k n) refl (λ l. last-is n k d l a b)
+  last_is zero k d h a b = omega arith
+  last_is (suc n) k d h a b = go (leb k n) refl (λ l. last_is n k d l a b)
     where
       go : (t : Bool) → leb k n ≡ t → (k ≤ n → last_to f n d ≡ k) → last_to f (suc n) d ≡ k
       go true e r =

@@ -12,22 +12,22 @@ unfoldable pub closed : ℕ → ℕ
 closed y = y * 365 + (y + 3) / 4 + (y + 399) / 400 - (y + 99) / 100
 
 -- the multiples of 4, of 100 and of 400 before a year
-count-4 : (y : ℕ) → (suc y + 3) / 4 ≡ (y + 3) / 4 + cond (eqb (y % 4) 0) 1 0
-count-4 y = go (eqb (y % 4) 0) refl
+count_4 : (y : ℕ) → (suc y + 3) / 4 ≡ (y + 3) / 4 + cond (eqb (y % 4) 0) 1 0
+count_4 y = go (eqb (y % 4) 0) refl
   where
     go : (t : Bool) → eqb (y % 4) 0 ≡ t → (suc y + 3) / 4 ≡ (y + 3) / 4 + cond t 1 0
     go true e = omega (arith, eqb-true (y % 4) 0 e)
     go false e = omega (arith, eqb-false (y % 4) 0 e)
 
-count-100 : (y : ℕ) → (suc y + 99) / 100 ≡ (y + 99) / 100 + cond (eqb (y % 100) 0) 1 0
-count-100 y = go (eqb (y % 100) 0) refl
+count_100 : (y : ℕ) → (suc y + 99) / 100 ≡ (y + 99) / 100 + cond (eqb (y % 100) 0) 1 0
+count_100 y = go (eqb (y % 100) 0) refl
   where
     go : (t : Bool) → eqb (y % 100) 0 ≡ t → (suc y + 99) / 100 ≡ (y + 99) / 100 + cond t 1 0
     go true e = omega (arith, eqb-true (y % 100) 0 e)
     go false e = omega (arith, eqb-false (y % 100) 0 e)
 
-count-400 : (y : ℕ) → (suc y + 399) / 400 ≡ (y + 399) / 400 + cond (eqb (y % 400) 0) 1 0
-count-400 y = go (eqb (y % 400) 0) refl
+count_400 : (y : ℕ) → (suc y + 399) / 400 ≡ (y + 399) / 400 + cond (eqb (y % 400) 0) 1 0
+count_400 y = go (eqb (y % 400) 0) refl
   where
     go : (t : Bool) → eqb (y % 400) 0 ≡ t → (suc y + 399) / 400 ≡ (y + 399) / 400 + cond t 1 0
     go true e = omega (arith, eqb-true (y % 400) 0 e)
@@ -43,49 +43,49 @@ one_more x p q r false true d h f g = absurd (false≢true (f refl))
 one_more x p q r false false true h f g = absurd (false≢true (g refl))
 one_more x p q r false false false h f g = omega arith
 
-of-100 : (y : ℕ) → eqb (y % 100) 0 ≡ true → eqb (y % 4) 0 ≡ true
-of-100 y h = eq-eqb (y % 4) 0 (omega (arith, eqb-true (y % 100) 0 h))
+of_100 : (y : ℕ) → eqb (y % 100) 0 ≡ true → eqb (y % 4) 0 ≡ true
+of_100 y h = eq-eqb (y % 4) 0 (omega (arith, eqb-true (y % 100) 0 h))
 
-of-400 : (y : ℕ) → eqb (y % 400) 0 ≡ true → eqb (y % 100) 0 ≡ true
-of-400 y h = eq-eqb (y % 100) 0 (omega (arith, eqb-true (y % 400) 0 h))
+of_400 : (y : ℕ) → eqb (y % 400) 0 ≡ true → eqb (y % 100) 0 ≡ true
+of_400 y h = eq-eqb (y % 100) 0 (omega (arith, eqb-true (y % 400) 0 h))
 
-closed-step : (y : ℕ) → closed (suc y) ≡ closed y + year_days (leap y)
+closed_step : (y : ℕ) → closed (suc y) ≡ closed y + year_days (leap y)
 unfolding leap closed year_days
-closed-step y =
+closed_step y =
     let e : suc y * 365 ≡ y * 365 + 365 = omega arith in
-    rw (e, count-4 y, count-100 y, count-400 y)
-    (one_more (y * 365) ((y + 3) / 4) ((y + 99) / 100) ((y + 399) / 400) _ _ _ (omega arith) (of-100 y) (of-400 y))
+    rw (e, count_4 y, count_100 y, count_400 y)
+    (one_more (y * 365) ((y + 3) / 4) ((y + 99) / 100) ((y + 399) / 400) _ _ _ (omega arith) (of_100 y) (of_400 y))
 
-pub before-closed : (y : ℕ) → days_before y ≡ closed y
+pub before_closed : (y : ℕ) → days_before y ≡ closed y
 unfolding days_before closed
-before-closed zero = refl
-before-closed (suc y) = rw (before-closed y) (sym (closed-step y))
+before_closed zero = refl
+before_closed (suc y) = rw (before_closed y) (sym (closed_step y))
 
 -- a year has 365 or 366 days
-pub year-step : (y : ℕ) → (days_before y + 365 ≤ days_before (suc y)) × (days_before (suc y) ≤ days_before y + 366)
+pub year_step : (y : ℕ) → (days_before y + 365 ≤ days_before (suc y)) × (days_before (suc y) ≤ days_before y + 366)
 unfolding days_before year_days
-year-step y = go (leap y)
+year_step y = go (leap y)
   where
     go : (t : Bool) → (days_before y + 365 ≤ days_before y + cond t 366 365) × (days_before y + cond t 366 365 ≤ days_before y + 366)
     go true = omega arith
     go false = omega arith
 
-pub years-rise : (y : ℕ) → days_before y ≤ days_before (suc y)
-years-rise y = omega (arith, year-step y)
+pub years_rise : (y : ℕ) → days_before y ≤ days_before (suc y)
+years_rise y = omega (arith, year_step y)
 
 -- so many years before a day are over by then
-pub years-over : (y d : ℕ) → y ≡ d / 366 → days_before y ≤ d
+pub years_over : (y d : ℕ) → y ≡ d / 366 → days_before y ≤ d
 unfolding closed
-years-over y d h = rw (before-closed y) (omega arith)
+years_over y d h = rw (before_closed y) (omega arith)
 
 -- the years 0000 to 9999 hold the days below 3652425
-pub all-years : days_before 10000 ≡ 3652425
+pub all_years : days_before 10000 ≡ 3652425
 unfolding closed
-all-years = rw (before-closed 10000)
+all_years = rw (before_closed 10000)
 
-pub year-in : (y d : ℕ) → y ≤ 10000 → days_before y ≤ d → d < days → y < 10000
-year-in y d h a b = go (leb 10000 y) refl
+pub year_in_lem : (y d : ℕ) → y ≤ 10000 → days_before y ≤ d → d < days → y < 10000
+year_in_lem y d h a b = go (leb 10000 y) refl
   where
     go : (t : Bool) → leb 10000 y ≡ t → y < 10000
-    go true e = let z : y ≡ 10000 = omega (arith, leb-true 10000 y e) in let w : days_before 10000 ≤ d = rw z at a in absurd (omega (arith, all-years))
+    go true e = let z : y ≡ 10000 = omega (arith, leb-true 10000 y e) in let w : days_before 10000 ≤ d = rw z at a in absurd (omega (arith, all_years))
     go false e = leb-false 10000 y e

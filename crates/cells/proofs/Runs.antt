@@ -8,13 +8,13 @@ use lib.Seq.{sets}
 use Rattle.book.specs.declared.Update.{Update}
 use Rattle.cells.specs.Cells.{tab, update_words, update_at}
 use Rattle.cells.specs.Runs.{updates_in}
-use Rattle.cells.proofs.Tables.{tab-ext, tab-snoc}
-use Rattle.cells.proofs.Windows.{same-before, update-ext, update-own}
+use Rattle.cells.proofs.Tables.{tab_ext, tab_snoc}
+use Rattle.cells.proofs.Windows.{same_before, update_ext, update_own}
 
 -- none at the start
-pub no-updates : (run : List ℕ) → updates_in run 0 ≡ []
+pub no_updates : (run : List ℕ) → updates_in run 0 ≡ []
 unfolding tab
-no-updates run = refl
+no_updates run = refl
 
 -- one more, written behind the first i
 pub one_more : (run : List ℕ) (i : ℕ) (u : Update) → i * 9 + 9 ≤ length run
@@ -23,5 +23,5 @@ one_more run i u l =
     let ys = sets run (i * 9) (update_words u) in
     let f : ℕ → Update = λ (k : ℕ). update_at ys (k * 9) in
     let b : tab f i ≡ updates_in run i =
-    tab-ext f _ i (λ k q. update-ext ys (k * 9) run (k * 9) (same-before 9 run (i * 9) (update_words u) (k * 9) (omega arith))) in
-    tab-snoc f i ∙ rw (b, update-own run (i * 9) u l)
+    tab_ext f _ i (λ k q. update_ext ys (k * 9) run (k * 9) (same_before 9 run (i * 9) (update_words u) (k * 9) (omega arith))) in
+    tab_snoc f i ∙ rw (b, update_own run (i * 9) u l)

@@ -15,19 +15,19 @@ use Rattle.digits.proofs.Width.{both}
 use Rattle.text.specs.Text.{free}
 use Rattle.chain.specs.Fields.{ahead, before}
 
-pub ahead-le : (x : ℕ) (bs : List ℕ) → ahead x bs ≤ length bs
-ahead-le x [] = omega arith
-ahead-le x (b ∷ bs) = go (eqb b x) (ahead-le x bs)
+pub ahead_le : (x : ℕ) (bs : List ℕ) → ahead x bs ≤ length bs
+ahead_le x [] = omega arith
+ahead_le x (b ∷ bs) = go (eqb b x) (ahead_le x bs)
   where
     go : (t : Bool) → ahead x bs ≤ length bs → cond t 0 (ahead x bs + 1) ≤ suc (length bs)
     go true h = omega arith
     go false h = omega arith
 
 -- in the first k bytes
-pub ahead-take : (x k : ℕ) (bs : List ℕ) → ahead x (take k bs) ≡ min k (ahead x bs)
-ahead-take x zero bs = omega arith
-ahead-take x (suc k) [] = omega arith
-ahead-take x (suc k) (b ∷ bs) = go (eqb b x) (ahead-take x k bs)
+pub ahead_take : (x k : ℕ) (bs : List ℕ) → ahead x (take k bs) ≡ min k (ahead x bs)
+ahead_take x zero bs = omega arith
+ahead_take x (suc k) [] = omega arith
+ahead_take x (suc k) (b ∷ bs) = go (eqb b x) (ahead_take x k bs)
   where
     go : (t : Bool) → ahead x (take k bs) ≡ min k (ahead x bs) → cond t 0 (ahead x (take k bs) + 1) ≡ min (suc k) (cond t 0 (ahead x bs + 1))
     go true h = omega arith
@@ -55,17 +55,17 @@ at_ahead x (b ∷ bs) l = go (eqb b x) refl l (λ h. at_ahead x bs h)
     go true e h r = ap (λ (y : ℕ). y ∷ bs) (eqb-true b x e)
     go false e h r = let k = r (omega arith) in simp add-one (simp add-one at k)
 
-pub before-free : (x : ℕ) (bs : List ℕ) → free x (before x bs) ≡ true
-before-free x [] = refl
-before-free x (b ∷ bs) = go (eqb b x) refl (before-free x bs)
+pub before_free : (x : ℕ) (bs : List ℕ) → free x (before x bs) ≡ true
+before_free x [] = refl
+before_free x (b ∷ bs) = go (eqb b x) refl (before_free x bs)
   where
     go : (t : Bool) → eqb b x ≡ t → free x (before x bs) ≡ true → free x (take (cond t 0 (ahead x bs + 1)) (b ∷ bs)) ≡ true
     go true e h = refl
     go false e h = simp (add-one, e) h
 
-pub ahead-at : (x : ℕ) (a r : List ℕ) → free x a ≡ true → ahead x (a ++ (x ∷ r)) ≡ length a
-ahead-at x [] r h = rw (eq-eqb x x refl)
-ahead-at x (b ∷ a) r h = go (eqb b x) h (λ e. ahead-at x a r e)
+pub ahead_at : (x : ℕ) (a r : List ℕ) → free x a ≡ true → ahead x (a ++ (x ∷ r)) ≡ length a
+ahead_at x [] r h = rw (eq-eqb x x refl)
+ahead_at x (b ∷ a) r h = go (eqb b x) h (λ e. ahead_at x a r e)
   where
     go : (t : Bool) → not t && free x a ≡ true → (free x a ≡ true → ahead x (a ++ (x ∷ r)) ≡ length a)
         → cond t 0 (ahead x (a ++ (x ∷ r)) + 1) ≡ suc (length a)
@@ -73,25 +73,25 @@ ahead-at x (b ∷ a) r h = go (eqb b x) h (λ e. ahead-at x a r e)
     go false e i = omega (arith, i e)
 
 -- ---- bytes that are not x
-pub digits-free : (x : ℕ) (bs : List ℕ) → is_digit x ≡ false → all_digits bs ≡ true → free x bs ≡ true
-digits-free x [] h k = refl
-digits-free x (b ∷ bs) h k =
+pub digits_free : (x : ℕ) (bs : List ℕ) → is_digit x ≡ false → all_digits bs ≡ true → free x bs ≡ true
+digits_free x [] h k = refl
+digits_free x (b ∷ bs) h k =
     let d = both (is_digit b) (all_digits bs) k in
-    rw (ne_eqb b x (λ e. let z : false ≡ true = sym h ∙ rw (← e) d.0 in absurd (false≢true z)), digits-free x bs h d.1)
+    rw (ne_eqb b x (λ e. let z : false ≡ true = sym h ∙ rw (← e) d.0 in absurd (false≢true z)), digits_free x bs h d.1)
 
-pub free-append : (x : ℕ) (a b : List ℕ) → free x a ≡ true → free x b ≡ true → free x (a ++ b) ≡ true
-free-append x [] b h k = k
-free-append x (c ∷ a) b h k = let d = both (not (eqb c x)) (free x a) h in rw (d.0, free-append x a b d.1 k)
+pub free_append : (x : ℕ) (a b : List ℕ) → free x a ≡ true → free x b ≡ true → free x (a ++ b) ≡ true
+free_append x [] b h k = k
+free_append x (c ∷ a) b h k = let d = both (not (eqb c x)) (free x a) h in rw (d.0, free_append x a b d.1 k)
 
-pub free-drop : (x n : ℕ) (bs : List ℕ) → free x bs ≡ true → free x (drop n bs) ≡ true
-free-drop x zero bs h = h
-free-drop x (suc n) [] h = refl
-free-drop x (suc n) (b ∷ bs) h = free-drop x n bs (both (not (eqb b x)) (free x bs) h).1
+pub free_drop : (x n : ℕ) (bs : List ℕ) → free x bs ≡ true → free x (drop n bs) ≡ true
+free_drop x zero bs h = h
+free_drop x (suc n) [] h = refl
+free_drop x (suc n) (b ∷ bs) h = free_drop x n bs (both (not (eqb b x)) (free x bs) h).1
 
 -- ---- parts
 module _ {A : Type 0} where
-  pub drop-take : (j k : ℕ) (l : List A) → drop j (take k l) ≡ take (k - j) (drop j l)
-  drop-take zero k l = rw sub-zero
-  drop-take (suc j) zero l = let q : 0 - suc j ≡ 0 = omega arith in rw q
-  drop-take (suc j) (suc k) [] = rw take-nil
-  drop-take (suc j) (suc k) (x ∷ l) = let q : suc k - suc j ≡ k - j = omega arith in rw q (drop-take j k l)
+  pub drop_take : (j k : ℕ) (l : List A) → drop j (take k l) ≡ take (k - j) (drop j l)
+  drop_take zero k l = rw sub-zero
+  drop_take (suc j) zero l = let q : 0 - suc j ≡ 0 = omega arith in rw q
+  drop_take (suc j) (suc k) [] = rw take-nil
+  drop_take (suc j) (suc k) (x ∷ l) = let q : suc k - suc j ≡ k - j = omega arith in rw q (drop_take j k l)

@@ -16,17 +16,17 @@ use Rattle.text.specs.Text.{free}
 use Rattle.chain.specs.Fields.{field, ahead, before, named, field_of}
 use Rattle.chain.specs.Places.{part, first_of, placed, field_at}
 use Rattle.chain.specs.declared.Step.{Step}
-use Rattle.chain.proofs.Ahead.{ahead-le, ahead-take, ahead_past, at_ahead, digits-free, drop-take}
-use Rattle.chain.proofs.Shortest.{tag-digits}
+use Rattle.chain.proofs.Ahead.{ahead_le, ahead_take, ahead_past, at_ahead, digits_free, drop_take}
+use Rattle.chain.proofs.Shortest.{tag_digits}
 
 -- ---- a value
 no_value : (r : Number) → named r [] ≡ none
 no_value No = refl
 no_value (Is t) = refl
 
-pub a-value : (t : ℕ) (v : List ℕ) → 1 ≤ length v → named (Is t) v ≡ some (field t v)
-a-value t [] l = absurd (omega arith)
-a-value t (b ∷ v) l = refl
+pub a_value : (t : ℕ) (v : List ℕ) → 1 ≤ length v → named (Is t) v ≡ some (field t v)
+a_value t [] l = absurd (omega arith)
+a_value t (b ∷ v) l = refl
 
 module _ (s : List ℕ) (at : ℕ) where
   abbrev rest : List ℕ
@@ -42,7 +42,7 @@ module _ (s : List ℕ) (at : ℕ) where
   late : k ≤ m → field_of (before 1 rest) ≡ none
   unfolding field_of
   late h =
-      let q : ahead 61 (take k rest) ≡ k = ahead-take 61 k rest ∙ omega arith in
+      let q : ahead 61 (take k rest) ≡ k = ahead_take 61 k rest ∙ omega arith in
       let e : drop (k + 1) (take k rest) ≡ [] = drop_of_length-le (take k rest) {i = k + 1} (rw length-take (omega arith)) in
       rw (q, e) (no_value (ranged_of 5 1 99999 (take k (take k rest))))
 
@@ -50,33 +50,33 @@ module _ (s : List ℕ) (at : ℕ) where
   early : m < k → field_of (before 1 rest) ≡ named (ranged_of 5 1 99999 (take m rest)) (take (k - (m + 1)) (drop (m + 1) rest))
   unfolding field_of
   early h =
-      let q : ahead 61 (take k rest) ≡ m = ahead-take 61 k rest ∙ omega arith in
-      rw (q, take-take m k rest (omega arith), drop-take (m + 1) k rest)
+      let q : ahead 61 (take k rest) ≡ m = ahead_take 61 k rest ∙ omega arith in
+      rw (q, take-take m k rest (omega arith), drop_take (m + 1) k rest)
 
-  none-no : field_of (before 1 rest) ≡ none → field_at s at ≡ Step.No
+  none_no : field_of (before 1 rest) ≡ none → field_at s at ≡ Step.No
   unfolding field_at
-  none-no e = rw e (go (ltb (first_of 1 s at) (length s)))
+  none_no e = rw e (go (ltb (first_of 1 s at) (length s)))
     where
       go : (t : Bool) → cond t Step.No Step.No ≡ Step.No
       go true = refl
       go false = refl
 
   -- there is no '='
-  pub no-equals : (mid : ℕ) → mid ≡ first_of 61 s at → length s ≤ mid → field_at s at ≡ Step.No
-  no-equals mid q h = none-no (late (omega (arith, ahead-le 1 rest, length-drop at s)))
+  pub no_equals : (mid : ℕ) → mid ≡ first_of 61 s at → length s ≤ mid → field_at s at ≡ Step.No
+  no_equals mid q h = none_no (late (omega (arith, ahead_le 1 rest, length-drop at s)))
 
   -- there is no tag before it
-  pub no-tag : (mid : ℕ) → mid ≡ first_of 61 s at → ranged_of 5 1 99999 (part at mid s) ≡ No → field_at s at ≡ Step.No
-  no-tag mid q r =
+  pub no_tag : (mid : ℕ) → mid ≡ first_of 61 s at → ranged_of 5 1 99999 (part at mid s) ≡ No → field_at s at ≡ Step.No
+  no_tag mid q r =
       let w : mid - at ≡ m = omega arith in
       let u : ranged_of 5 1 99999 (take m rest) ≡ No = rw w at r in
-      none-no (go (leb k m) refl u)
+      none_no (go (leb k m) refl u)
     where
       go : (t : Bool) → leb k m ≡ t → ranged_of 5 1 99999 (take m rest) ≡ No → field_of (before 1 rest) ≡ none
       go true e u = late (leb-true k m e)
       go false e u = early (leb-false k m e) ∙ rw u
 
-  module _ (mid t to : ℕ) (equals : mid ≡ first_of 61 s at) (in-s : mid < length s)
+  module _ (mid t to : ℕ) (equals : mid ≡ first_of 61 s at) (in_s : mid < length s)
       (tag : ranged_of 5 1 99999 (part at mid s) ≡ Is t) (soh : to ≡ first_of 1 s (mid + 1)) where
     width : mid - at ≡ m
     width = omega arith
@@ -88,23 +88,23 @@ module _ (s : List ℕ) (at : ℕ) where
     past : k ≡ m + 1 + ahead 1 (drop (m + 1) rest)
     past =
         let l : m < length rest = rw length-drop (omega arith) in
-        let f : free 1 (take m rest) ≡ true = digits-free 1 (take m rest) refl (tag-digits (take m rest) tag_read) in
+        let f : free 1 (take m rest) ≡ true = digits_free 1 (take m rest) refl (tag_digits (take m rest) tag_read) in
         let p : k ≡ m + ahead 1 (drop m rest) = ahead_past 1 m rest (omega arith) f in
         let q : ahead 1 (drop m rest) ≡ ahead 1 (drop (m + 1) rest) + 1 = rw (at_ahead 61 rest l) in
         omega arith
 
-    value-at : drop (m + 1) rest ≡ drop (mid + 1) s
-    value-at = let q : at + (m + 1) ≡ mid + 1 = omega arith in rw (drop-drop (m + 1) at s, q)
+    value_at : drop (m + 1) rest ≡ drop (mid + 1) s
+    value_at = let q : at + (m + 1) ≡ mid + 1 = omega arith in rw (drop-drop (m + 1) at s, q)
 
     ends_at : first_of 1 s at ≡ to
-    ends_at = let e : ahead 1 (drop (m + 1) rest) ≡ ahead 1 (drop (mid + 1) s) = ap (ahead 1) value-at in omega (arith, past)
+    ends_at = let e : ahead 1 (drop (m + 1) rest) ≡ ahead 1 (drop (mid + 1) s) = ap (ahead 1) value_at in omega (arith, past)
 
     by_parts : field_at s at ≡ cond (ltb to (length s)) (placed to (named (Is t) (part (mid + 1) to s))) Step.No
     unfolding field_at
     by_parts =
         let l : m < k = omega (arith, past) in
         let w : k - (m + 1) ≡ to - (mid + 1) = omega (arith, ends_at) in
-        rw (ends_at, early l, tag_read, value-at, w)
+        rw (ends_at, early l, tag_read, value_at, w)
 
     -- no SOH ends it
     pub no_end : length s ≤ to → field_at s at ≡ Step.No
@@ -116,9 +116,9 @@ module _ (s : List ℕ) (at : ℕ) where
         let z : to - (mid + 1) ≡ 0 = omega arith in
         by_parts ∙ rw (lt-ltb to (length s) h, z)
 
-    pub a-field : to < length s → (to ≡ mid + 1 → ⊥) → field_at s at ≡ Step.Is t (mid + 1) to
-    a-field h q =
+    pub a_field : to < length s → (to ≡ mid + 1 → ⊥) → field_at s at ≡ Step.Is t (mid + 1) to
+    a_field h q =
         let e : mid + 1 ≤ to = omega arith in
         let l : length (part (mid + 1) to s) ≡ to - (mid + 1) = rw (length-take, length-drop) (omega arith) in
         let z : to - (to - (mid + 1)) ≡ mid + 1 = omega arith in
-        by_parts ∙ rw (lt-ltb to (length s) h, a-value t (part (mid + 1) to s) (omega arith), l, z)
+        by_parts ∙ rw (lt-ltb to (length s) h, a_value t (part (mid + 1) to s) (omega arith), l, z)

@@ -30,22 +30,22 @@ module _ (s : List ℕ) (i x : ℕ) (l : 4 ≤ length s - i) where
     past_first : first_of x s (i + 1) ≡ first_of x s i
     past_first = passed s i x (omega arith) a
 
-    pub found-second : get_or s (i + 1) 0 ≡ x → first_of x s i ≡ i + 1
-    found-second h = sym past_first ∙ found s (i + 1) x (omega arith) h
+    pub found_second : get_or s (i + 1) 0 ≡ x → first_of x s i ≡ i + 1
+    found_second h = sym past_first ∙ found s (i + 1) x (omega arith) h
 
     module _ (b : get_or s (i + 1) 0 ≡ x → ⊥) where
-      past-second : first_of x s (i + 2) ≡ first_of x s i
-      past-second = let q : i + 2 ≡ i + 1 + 1 = omega arith in ap (first_of x s) q ∙ passed s (i + 1) x (omega arith) b ∙ past_first
+      past_second : first_of x s (i + 2) ≡ first_of x s i
+      past_second = let q : i + 2 ≡ i + 1 + 1 = omega arith in ap (first_of x s) q ∙ passed s (i + 1) x (omega arith) b ∙ past_first
 
-      pub found-third : get_or s (i + 2) 0 ≡ x → first_of x s i ≡ i + 2
-      found-third h = sym past-second ∙ found s (i + 2) x (omega arith) h
+      pub found_third : get_or s (i + 2) 0 ≡ x → first_of x s i ≡ i + 2
+      found_third h = sym past_second ∙ found s (i + 2) x (omega arith) h
 
       module _ (c : get_or s (i + 2) 0 ≡ x → ⊥) where
-        past-third : first_of x s (i + 3) ≡ first_of x s i
-        past-third = let q : i + 3 ≡ i + 2 + 1 = omega arith in ap (first_of x s) q ∙ passed s (i + 2) x (omega arith) c ∙ past-second
+        past_third : first_of x s (i + 3) ≡ first_of x s i
+        past_third = let q : i + 3 ≡ i + 2 + 1 = omega arith in ap (first_of x s) q ∙ passed s (i + 2) x (omega arith) c ∙ past_second
 
-        pub found-fourth : get_or s (i + 3) 0 ≡ x → first_of x s i ≡ i + 3
-        found-fourth h = sym past-third ∙ found s (i + 3) x (omega arith) h
+        pub found_fourth : get_or s (i + 3) 0 ≡ x → first_of x s i ≡ i + 3
+        found_fourth h = sym past_third ∙ found s (i + 3) x (omega arith) h
 
-        pub past-four : (get_or s (i + 3) 0 ≡ x → ⊥) → first_of x s (i + 4) ≡ first_of x s i
-        past-four d = let q : i + 4 ≡ i + 3 + 1 = omega arith in ap (first_of x s) q ∙ passed s (i + 3) x (omega arith) d ∙ past-third
+        pub past_four : (get_or s (i + 3) 0 ≡ x → ⊥) → first_of x s (i + 4) ≡ first_of x s i
+        past_four d = let q : i + 4 ≡ i + 3 + 1 = omega arith in ap (first_of x s) q ∙ passed s (i + 3) x (omega arith) d ∙ past_third

@@ -11,9 +11,9 @@ use lib.ListN.{length}
 use Rattle.digits.specs.Digits.{is_digit, all_digits, value, digits_of, whole_of, ranged_of, within}
 use Rattle.digits.specs.declared.Number.{Number}
 use Rattle.digits.specs.declared.Number.TheVariants.{Is, No}
-use Rattle.digits.proofs.Width.{both, below, whole-is-digits}
+use Rattle.digits.proofs.Width.{both, below, whole_is_digits}
 use Rattle.text.specs.Text.{fixed, width_to, width_of, decimal}
-use Rattle.text.proofs.Written.{width-pos, width-le, width-more}
+use Rattle.text.proofs.Written.{width_pos, width_le, width_more}
 
 -- ---- what reading says of the bytes
 pub record Digits (w : ℕ) (bs : List ℕ) (n : ℕ) : Type 0 where
@@ -23,9 +23,9 @@ pub record Digits (w : ℕ) (bs : List ℕ) (n : ℕ) : Type 0 where
   pub all : all_digits bs ≡ true
   pub is : value 0 bs ≡ n
 
-pub read-digits : (w : ℕ) (bs : List ℕ) {n : ℕ} → digits_of w bs ≡ Is n → Digits w bs n
+pub read_digits : (w : ℕ) (bs : List ℕ) {n : ℕ} → digits_of w bs ≡ Is n → Digits w bs n
 unfolding digits_of
-read-digits w bs {n} = go (leb 1 (length bs)) (leb (length bs) w) (leb w 18) (all_digits bs) refl refl refl refl
+read_digits w bs {n} = go (leb 1 (length bs)) (leb (length bs) w) (leb w 18) (all_digits bs) refl refl refl refl
   where
     go : (a b c d : Bool) → leb 1 (length bs) ≡ a → leb (length bs) w ≡ b → leb w 18 ≡ c → all_digits bs ≡ d
         → cond (a && (b && (c && d))) (Is (value 0 bs)) No ≡ Is n → Digits w bs n
@@ -35,9 +35,9 @@ read-digits w bs {n} = go (leb 1 (length bs)) (leb (length bs) w) (leb w 18) (al
     go true false c d p q r t e = let z : ◌≡◌ {A = ℕ} 0 1 = cc in absurd (omega arith)
     go false b c d p q r t e = let z : ◌≡◌ {A = ℕ} 0 1 = cc in absurd (omega arith)
 
-pub ranged-whole : (w lo hi : ℕ) (bs : List ℕ) {n : ℕ} → ranged_of w lo hi bs ≡ Is n → whole_of w bs ≡ Is n
+pub ranged_whole : (w lo hi : ℕ) (bs : List ℕ) {n : ℕ} → ranged_of w lo hi bs ≡ Is n → whole_of w bs ≡ Is n
 unfolding ranged_of
-ranged-whole w lo hi bs {n} = go (whole_of w bs)
+ranged_whole w lo hi bs {n} = go (whole_of w bs)
   where
     go : (x : Number) → within lo hi x ≡ Is n → x ≡ Is n
     go No e = e
@@ -47,14 +47,14 @@ ranged-whole w lo hi bs {n} = go (whole_of w bs)
         pick true f = f
         pick false f = let z : ◌≡◌ {A = ℕ} 0 1 = cc in absurd (omega arith)
 
-pub tag-digits : (bs : List ℕ) {t : ℕ} → ranged_of 5 1 99999 bs ≡ Is t → all_digits bs ≡ true
-tag-digits bs e = (read-digits 5 bs (whole-is-digits 5 bs (ranged-whole 5 1 99999 bs e))).all
+pub tag_digits : (bs : List ℕ) {t : ℕ} → ranged_of 5 1 99999 bs ≡ Is t → all_digits bs ≡ true
+tag_digits bs e = (read_digits 5 bs (whole_is_digits 5 bs (ranged_whole 5 1 99999 bs e))).all
 
 -- ---- written again
-fixed-value : (k v : ℕ) (bs : List ℕ) → all_digits bs ≡ true → fixed (k + length bs) (value v bs) ≡ fixed k v ++ bs
+fixed_value : (k v : ℕ) (bs : List ℕ) → all_digits bs ≡ true → fixed (k + length bs) (value v bs) ≡ fixed k v ++ bs
 unfolding fixed
-fixed-value k v [] h = rw (add-zero, append-nil)
-fixed-value k v (b ∷ bs) h =
+fixed_value k v [] h = rw (add-zero, append-nil)
+fixed_value k v (b ∷ bs) h =
     let d = both (is_digit b) (all_digits bs) h in
     let e = both (leb 48 b) (leb b 57) d.0 in
     let l : 48 ≤ b = leb-true 48 b e.0 in
@@ -62,58 +62,58 @@ fixed-value k v (b ∷ bs) h =
     let q : (v * 10 + (b - 48)) / 10 ≡ v = omega arith in
     let r : 48 + (v * 10 + (b - 48)) % 10 ≡ b = omega arith in
     let n : k + suc (length bs) ≡ suc k + length bs = omega arith in
-    ap (λ (j : ℕ). fixed j (value v (b ∷ bs))) n ∙ fixed-value (suc k) (v * 10 + (b - 48)) bs d.1 ∙ rw (q, r, append_assoc)
+    ap (λ (j : ℕ). fixed j (value v (b ∷ bs))) n ∙ fixed_value (suc k) (v * 10 + (b - 48)) bs d.1 ∙ rw (q, r, append_assoc)
 
 -- exactly as many digits as they were
 pub fixed_back : (bs : List ℕ) → all_digits bs ≡ true → fixed (length bs) (value 0 bs) ≡ bs
 unfolding fixed
-fixed_back bs h = rw zero-add at (fixed-value 0 0 bs h)
+fixed_back bs h = rw zero-add at (fixed_value 0 0 bs h)
 
 -- digits after a number of at least k digits
-value-ge : (k v : ℕ) (bs : List ℕ) → 10 ^ k ≤ v → 10 ^ (k + length bs) ≤ value v bs
-value-ge k v [] h = rw add-zero h
-value-ge k v (b ∷ bs) h =
+value_ge : (k v : ℕ) (bs : List ℕ) → 10 ^ k ≤ v → 10 ^ (k + length bs) ≤ value v bs
+value_ge k v [] h = rw add-zero h
+value_ge k v (b ∷ bs) h =
     let p : 10 ^ suc k ≤ v * 10 + (b - 48) = rw pow-suc (omega arith) in
-    rw (add-suc, ← suc-add) (value-ge (suc k) (v * 10 + (b - 48)) bs p)
+    rw (add-suc, ← suc-add) (value_ge (suc k) (v * 10 + (b - 48)) bs p)
 
 -- a leading digit that is no zero
-lead-ge : (b : ℕ) (bs : List ℕ) → 49 ≤ b → 10 ^ length bs ≤ value 0 (b ∷ bs)
-lead-ge b bs h = rw zero-add at (value-ge 0 (0 * 10 + (b - 48)) bs (omega arith))
+lead_ge : (b : ℕ) (bs : List ℕ) → 49 ≤ b → 10 ^ length bs ≤ value 0 (b ∷ bs)
+lead_ge b bs h = rw zero-add at (value_ge 0 (0 * 10 + (b - 48)) bs (omega arith))
 
-pub own-width : (w : ℕ) (bs : List ℕ) {n : ℕ} → Digits w bs n → digits_of (length bs) bs ≡ Is n
+pub own_width : (w : ℕ) (bs : List ℕ) {n : ℕ} → Digits w bs n → digits_of (length bs) bs ≡ Is n
 unfolding digits_of
-own-width w bs {n} d =
+own_width w bs {n} d =
     let l = length bs in
     rw (le-leb 1 l d.some, le-leb l l (omega arith), le-leb l 18 (omega (arith, d.most, d.wide)), d.all, d.is)
 
-no-lead-zero : (w b : ℕ) (bs : List ℕ) {n : ℕ} → 1 ≤ length bs → whole_of w (b ∷ bs) ≡ Is n → b ≡ 48 → ⊥
+no_lead_zero : (w b : ℕ) (bs : List ℕ) {n : ℕ} → 1 ≤ length bs → whole_of w (b ∷ bs) ≡ Is n → b ≡ 48 → ⊥
 unfolding whole_of
-no-lead-zero w b bs {n} l e h =
+no_lead_zero w b bs {n} l e h =
     let f : No ≡ Is n = rw (le-leb 2 (suc (length bs)) (omega arith), eq-eqb b 48 h) at e in
     let z : ◌≡◌ {A = ℕ} 0 1 = cc in
     omega arith
 
-width-of : (w : ℕ) (bs : List ℕ) {n : ℕ} → Digits w bs n → whole_of w bs ≡ Is n → width_of n ≡ length bs
+width_of_lem : (w : ℕ) (bs : List ℕ) {n : ℕ} → Digits w bs n → whole_of w bs ≡ Is n → width_of n ≡ length bs
 unfolding width_of
-width-of w bs {n} d e = omega (arith, width-le 17 n (length bs) d.some small, go bs d e)
+width_of_lem w bs {n} d e = omega (arith, width_le 17 n (length bs) d.some small, go bs d e)
   where
     small : n < 10 ^ length bs
-    small = below (length bs) bs (own-width w bs d)
+    small = below (length bs) bs (own_width w bs d)
 
     go : (cs : List ℕ) → Digits w cs n → whole_of w cs ≡ Is n → length cs ≤ width_to 17 n
     go [] c f = omega arith
-    go (b ∷ []) c f = width-pos 17 n
+    go (b ∷ []) c f = width_pos 17 n
     go (b ∷ x ∷ cs) c f =
         let a = both (is_digit b) (all_digits (x ∷ cs)) c.all in
-        let l : 49 ≤ b = omega (arith, leb-true 48 b (both (leb 48 b) (leb b 57) a.0).0, no-lead-zero w b (x ∷ cs) (omega arith) f) in
+        let l : 49 ≤ b = omega (arith, leb-true 48 b (both (leb 48 b) (leb b 57) a.0).0, no_lead_zero w b (x ∷ cs) (omega arith) f) in
         let k : length bs ≤ 18 = omega (arith, d.most, d.wide) in
         let m : 10 ^ length bs ≤ 10 ^ 18 = pow-le-pow_right (omega arith) k in
-        let g : 10 ^ suc (length cs) ≤ n = rw c.is at (lead-ge b (x ∷ cs) l) in
-        width-more 17 n (suc (length cs)) (omega (arith, small)) g
+        let g : 10 ^ suc (length cs) ≤ n = rw c.is at (lead_ge b (x ∷ cs) l) in
+        width_more 17 n (suc (length cs)) (omega (arith, small)) g
 
 -- the shortest form
-pub decimal-back : (w : ℕ) (bs : List ℕ) {n : ℕ} → whole_of w bs ≡ Is n → decimal n ≡ bs
+pub decimal_back : (w : ℕ) (bs : List ℕ) {n : ℕ} → whole_of w bs ≡ Is n → decimal n ≡ bs
 unfolding decimal
-decimal-back w bs {n} e =
-    let d = read-digits w bs (whole-is-digits w bs e) in
-    rw (width-of w bs d e, ← d.is) (fixed_back bs d.all)
+decimal_back w bs {n} e =
+    let d = read_digits w bs (whole_is_digits w bs e) in
+    rw (width_of_lem w bs d e, ← d.is) (fixed_back bs d.all)

@@ -13,16 +13,16 @@ use lib.Seq.{get_or-take, get_or-drop}
 use Rattle.digits.specs.Digits.{digits_of, whole_of, ranged_of, within}
 use Rattle.digits.specs.declared.Number.TheVariants.{Is, No}
 use Rattle.digits.proofs.Steps.{rest, none, long, fit, short, zeroed, unzeroed, more, one, other, done}
-use Rattle.digits.proofs.Ranges.{ranged-back}
+use Rattle.digits.proofs.Ranges.{ranged_back}
 use Rattle.digits.proofs.Width.{push, whole_below}
 use Rattle.digits.proofs.Words.{is_digit_lem}
 use Rattle.chain.specs.Places.{part, first_of, field_at}
 use Rattle.chain.specs.Places.{Tells}
 use Rattle.chain.specs.declared.Step.{Step}
 use Rattle.chain.specs.declared.Tag.{Tag}
-use Rattle.chain.proofs.Ahead.{ahead-le}
+use Rattle.chain.proofs.Ahead.{ahead_le}
 use Rattle.chain.proofs.Scan.{found, passed, unfound}
-use Rattle.chain.proofs.Reading.{no-equals, no-tag}
+use Rattle.chain.proofs.Reading.{no_equals, no_tag}
 
 -- ---- digits that are no tag
 unread : (t : List ℕ) → digits_of 5 t ≡ No → ranged_of 5 1 99999 t ≡ No
@@ -34,18 +34,18 @@ unread t e = rw e (go (leb 2 (length t)) (eqb (get_or t 0 0) 48))
     go true false = refl
     go false b = refl
 
-zero-unread : (t : List ℕ) → digits_of 5 t ≡ Is 0 → ranged_of 5 1 99999 t ≡ No
+zero_unread : (t : List ℕ) → digits_of 5 t ≡ Is 0 → ranged_of 5 1 99999 t ≡ No
 unfolding ranged_of whole_of
-zero-unread t e = rw e (go (leb 2 (length t)) (eqb (get_or t 0 0) 48))
+zero_unread t e = rw e (go (leb 2 (length t)) (eqb (get_or t 0 0) 48))
   where
     go : (a b : Bool) → within 1 99999 (cond (a && b) No (Is 0)) ≡ No
     go true true = refl
     go true false = refl
     go false b = refl
 
-zeroed-unread : (t : List ℕ) → whole_of 5 t ≡ No → ranged_of 5 1 99999 t ≡ No
+zeroed_unread : (t : List ℕ) → whole_of 5 t ≡ No → ranged_of 5 1 99999 t ≡ No
 unfolding ranged_of
-zeroed-unread t e = rw e
+zeroed_unread t e = rw e
 
 -- what the bytes give is what digits give, where there are 1 to 5
 stopped : (t : List ℕ) → rest 0 t ≡ No → digits_of 5 t ≡ No
@@ -62,7 +62,7 @@ module _ (s : List ℕ) (at : ℕ) where
   bytes = part at (first_of 61 s at) s
 
   size : length bytes ≡ first_of 61 s at - at
-  size = let a = ahead-le 61 (drop at s) in rw length-take (omega (arith, a, length-drop at s))
+  size = let a = ahead_le 61 (drop at s) in rw length-take (omega (arith, a, length-drop at s))
 
   pub record Reads (i v : ℕ) : Type 0 where
     pub after : at ≤ i
@@ -79,7 +79,7 @@ module _ (s : List ℕ) (at : ℕ) where
   module _ (i v : ℕ) (w : Reads i v) where
     -- no '=' is found
     pub ends : length s ≤ i → field_at s at ≡ Step.No
-    ends l = no-equals s at i (sym (unfound s i 61 l) ∙ w.same) l
+    ends l = no_equals s at i (sym (unfound s i 61 l) ∙ w.same) l
 
     module _ (l : i < length s) where
       -- '=' is found
@@ -94,7 +94,7 @@ module _ (s : List ℕ) (at : ℕ) where
         first_byte g = get_or-take (first_of 61 s at - at) (drop at s) 0 0 (omega (arith, here)) ∙ get_or-drop at s 0 0 ∙ ap (λ (k : ℕ). get_or s k 0) (add-zero at)
 
         no : ranged_of 5 1 99999 bytes ≡ No → field_at s at ≡ Step.No
-        no r = no-tag s at (first_of 61 s at) refl r
+        no r = no_tag s at (first_of 61 s at) refl r
 
         five : length bytes ≤ 5
         five = omega (arith, size, here, w.few)
@@ -105,11 +105,11 @@ module _ (s : List ℕ) (at : ℕ) where
           where
             go : (a : Bool) → leb 1 (length bytes) ≡ a → ranged_of 5 1 99999 bytes ≡ No
             go false p = let g = leb-false 1 (length bytes) p in unread bytes (none bytes 5 (omega arith))
-            go true p = zero-unread bytes (fit bytes 5 (leb-true 1 (length bytes) p) five (omega arith) ∙ all ∙ ap Is z)
+            go true p = zero_unread bytes (fit bytes 5 (leb-true 1 (length bytes) p) five (omega arith) ∙ all ∙ ap Is z)
 
         -- the first is a zero
-        pub at-leading : (v ≡ 0 → ⊥) → get_or s at 0 ≡ 48 → field_at s at ≡ Step.No
-        at-leading n e = no (go (leb 2 (length bytes)) refl)
+        pub at_leading : (v ≡ 0 → ⊥) → get_or s at 0 ≡ 48 → field_at s at ≡ Step.No
+        at_leading n e = no (go (leb 2 (length bytes)) refl)
           where
             only : length bytes ≤ 1 → rest 0 bytes ≡ Is 0
             only h = go' (leb 1 (length bytes)) refl
@@ -128,11 +128,11 @@ module _ (s : List ℕ) (at : ℕ) where
             go false p = let g = leb-false 2 (length bytes) p in absurd (n (is_zero (omega arith)))
             go true p =
                 let g = leb-true 2 (length bytes) p in
-                zeroed-unread bytes (zeroed bytes 5 g (first_byte (omega (arith, size, here)) ∙ e))
+                zeroed_unread bytes (zeroed bytes 5 g (first_byte (omega (arith, size, here)) ∙ e))
 
         -- a tag
         pub at_tag : (v ≡ 0 → ⊥) → (get_or s at 0 ≡ 48 → ⊥) → ranged_of 5 1 99999 (part at i s) ≡ Is v
-        at_tag n e = ap (λ (m : ℕ). ranged_of 5 1 99999 (part at m s)) here ∙ ranged-back 5 1 99999 bytes is_whole (omega arith) (let b : v < 100000 = whole_below 5 bytes is_whole in omega arith)
+        at_tag n e = ap (λ (m : ℕ). ranged_of 5 1 99999 (part at m s)) here ∙ ranged_back 5 1 99999 bytes is_whole (omega arith) (let b : v < 100000 = whole_below 5 bytes is_whole in omega arith)
           where
             some : 1 ≤ length bytes
             some = go' (leb 1 (length bytes)) refl
@@ -169,7 +169,7 @@ module _ (s : List ℕ) (at : ℕ) where
             ∙ ap (λ (k : ℕ). get_or s k 0) k
 
         too_many : 5 ≤ i - at → field_at s at ≡ Step.No
-        too_many h = no-tag s at (first_of 61 s at) refl (unread bytes (long bytes 5 (omega (arith, inside)) (omega (arith, inside))))
+        too_many h = no_tag s at (first_of 61 s at) refl (unread bytes (long bytes 5 (omega (arith, inside)) (omega (arith, inside))))
 
         -- x is what the byte is worth
         module _ (x : ℕ) (e : x ≡ bit_xor (get_or s i 0) 48) where
@@ -177,7 +177,7 @@ module _ (s : List ℕ) (at : ℕ) where
           worth = e ∙ ap (λ (b : ℕ). bit_xor b 48) (sym byte)
 
           pub no_digit : 9 < x → field_at s at ≡ Step.No
-          no_digit h = no-tag s at (first_of 61 s at) refl (unread bytes (stopped bytes (w.left ∙ other bytes (i - at) v x worth inside h)))
+          no_digit h = no_tag s at (first_of 61 s at) refl (unread bytes (stopped bytes (w.left ∙ other bytes (i - at) v x worth inside h)))
 
           one_more : x ≤ 9 → i - at < 5 → Reads (i + 1) (v * 10 + x)
           one_more d h =
@@ -202,9 +202,9 @@ module _ (s : List ℕ) (at : ℕ) where
         goes_on_lem h = one_more unlike x e d h
 
 -- ---- what was told of a tag
-pub told-no : (s : List ℕ) (at : ℕ) (r : Tag) → Tells s at r → r ≡ Tag.No → field_at s at ≡ Step.No
-told-no s at Tag.No h e = h
-told-no s at (Tag.Is t mid) h e = let z : ◌≡◌ {A = ℕ} 0 1 = cc in absurd (omega arith)
+pub told_no : (s : List ℕ) (at : ℕ) (r : Tag) → Tells s at r → r ≡ Tag.No → field_at s at ≡ Step.No
+told_no s at Tag.No h e = h
+told_no s at (Tag.Is t mid) h e = let z : ◌≡◌ {A = ℕ} 0 1 = cc in absurd (omega arith)
 
 pub told_is : (s : List ℕ) (at : ℕ) (r : Tag) {t mid : ℕ} → Tells s at r → r ≡ Tag.Is t mid → Tells s at (Tag.Is t mid)
 told_is s at Tag.No h e = let z : ◌≡◌ {A = ℕ} 0 1 = cc in absurd (omega arith)

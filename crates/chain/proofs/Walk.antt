@@ -14,14 +14,14 @@ use lib.Seq.{drop-cons, drop-drop, length-take-le}
 use Rattle.digits.specs.Digits.{ranged_of}
 use Rattle.digits.specs.declared.Number.{Number}
 use Rattle.digits.specs.declared.Number.TheVariants.{Is, No}
-use Rattle.digits.proofs.Ranges.{ranged-in}
+use Rattle.digits.proofs.Ranges.{ranged_in}
 use Rattle.text.specs.Text.{decimal, free}
 use Rattle.chain.specs.Fields.{Field, field, ahead, before, behind, named, field_of, then, closed, cut, fields_of}
 use Rattle.chain.specs.Bytes.{field_bytes, fair}
 use Rattle.chain.specs.Places.{part, first_of, placed, field_at, is_some, broken, onto, over, run, left}
 use Rattle.chain.specs.declared.Step.{Step}
-use Rattle.chain.proofs.Ahead.{ahead-le, at_ahead, before-free, free-drop, drop-take}
-use Rattle.chain.proofs.Shortest.{ranged-whole, decimal-back}
+use Rattle.chain.proofs.Ahead.{ahead_le, at_ahead, before_free, free_drop, drop_take}
+use Rattle.chain.proofs.Shortest.{ranged_whole, decimal_back}
 
 -- ---- bytes that are read field by field, whatever is made of the fields
 pub record Reads (A : Type 0) : Type 0 where
@@ -36,9 +36,9 @@ pub record Reads (A : Type 0) : Type 0 where
 
 module _ {A : Type 0} (x : Reads A) where
   -- up to the next SOH
-  to-soh : (bs p : List ℕ) → ahead 1 bs < length bs → x.read p bs ≡ x.more (field_of (p ++ before 1 bs)) (x.read [] (behind 1 bs))
-  to-soh [] p h = absurd (omega arith)
-  to-soh (b ∷ bs) p h = x.cons p b bs ∙ go (eqb b 1) h (λ l. to-soh bs (p ++ (b ∷ [])) l)
+  to_soh : (bs p : List ℕ) → ahead 1 bs < length bs → x.read p bs ≡ x.more (field_of (p ++ before 1 bs)) (x.read [] (behind 1 bs))
+  to_soh [] p h = absurd (omega arith)
+  to_soh (b ∷ bs) p h = x.cons p b bs ∙ go (eqb b 1) h (λ l. to_soh bs (p ++ (b ∷ [])) l)
     where
       go : (t : Bool) → cond t 0 (ahead 1 bs + 1) < suc (length bs)
           → (ahead 1 bs < length bs → x.read (p ++ (b ∷ [])) bs ≡ x.more (field_of ((p ++ (b ∷ [])) ++ before 1 bs)) (x.read [] (behind 1 bs)))
@@ -81,27 +81,27 @@ parted p f e = go (ranged_of 5 1 99999 (before 61 p)) (behind 61 p) refl refl e
         rw (← q) (record { tag = a; text = b; some = omega arith })
 
 module _ (p : List ℕ) (f : Field) (h : field_of p ≡ some f) where
-  pub equals-in : ahead 61 p < length p
-  equals-in = let x = parted p f h in omega (arith, ap length x.text, length-drop (ahead 61 p + 1) p, x.some)
+  pub equals_in : ahead 61 p < length p
+  equals_in = let x = parted p f h in omega (arith, ap length x.text, length-drop (ahead 61 p + 1) p, x.some)
 
   -- the tag, '=' and the value are all of it
-  pub parted-bytes : p ≡ decimal f.tag ++ (61 ∷ f.text)
-  parted-bytes =
+  pub parted_bytes : p ≡ decimal f.tag ++ (61 ∷ f.text)
+  parted_bytes =
       let x = parted p f h in
-      let d : decimal f.tag ≡ before 61 p = decimal-back 5 (before 61 p) (ranged-whole 5 1 99999 (before 61 p) x.tag) in
-      rw (d, ← x.text) (sym (ap (λ (r : List ℕ). before 61 p ++ r) (sym (at_ahead 61 p equals-in)) ∙ take-append-drop (ahead 61 p) p))
+      let d : decimal f.tag ≡ before 61 p = decimal_back 5 (before 61 p) (ranged_whole 5 1 99999 (before 61 p) x.tag) in
+      rw (d, ← x.text) (sym (ap (λ (r : List ℕ). before 61 p ++ r) (sym (at_ahead 61 p equals_in)) ∙ take-append-drop (ahead 61 p) p))
 
-  pub parted-fair : free 1 p ≡ true → fair f ≡ true
+  pub parted_fair : free 1 p ≡ true → fair f ≡ true
   unfolding fair
-  parted-fair g =
+  parted_fair g =
       let x = parted p f h in
-      let i = ranged-in 5 1 99999 (before 61 p) x.tag in
+      let i = ranged_in 5 1 99999 (before 61 p) x.tag in
       rw (
         le-leb 1 f.tag i.low,
         le-leb f.tag 99999 i.high,
         le-leb 1 (length f.text) x.some,
         ← x.text,
-      ) (free-drop 1 (ahead 61 p + 1) p g)
+      ) (free_drop 1 (ahead 61 p + 1) p g)
 
 -- a field that stands at at..to
 pub record Found (s : List ℕ) (at t from to : ℕ) : Type 0 where
@@ -118,47 +118,47 @@ module _ (s : List ℕ) (at : ℕ) where
   abbrev k : ℕ
   k = ahead 1 rest
 
-  behind-is : behind 1 rest ≡ drop (first_of 1 s at + 1) s
-  behind-is = rw (drop-drop, ← add_assoc at k 1)
+  behind_is : behind 1 rest ≡ drop (first_of 1 s at + 1) s
+  behind_is = rw (drop-drop, ← add_assoc at k 1)
 
   module _ (f : Field) (high : first_of 1 s at < length s) (h : field_of (before 1 rest) ≡ some f) where
     abbrev m : ℕ
     m = ahead 61 (before 1 rest)
 
-    piece-length : length (before 1 rest) ≡ k
-    piece-length = length-take-le k rest (rw length-drop (omega arith))
+    piece_length : length (before 1 rest) ≡ k
+    piece_length = length-take-le k rest (rw length-drop (omega arith))
 
     places : (m < k) × (length f.text ≡ k - (m + 1))
     places =
         let x = parted (before 1 rest) f h in
-        let i = equals-in (before 1 rest) f h in
-        (omega (arith, piece-length), omega (arith, ap length x.text, length-drop (m + 1) (before 1 rest), piece-length))
+        let i = equals_in (before 1 rest) f h in
+        (omega (arith, piece_length), omega (arith, ap length x.text, length-drop (m + 1) (before 1 rest), piece_length))
 
     from_is : first_of 1 s at - length f.text ≡ at + (m + 1)
     from_is = omega (arith, places.0, places.1)
 
-    text-is : part (first_of 1 s at - length f.text) (first_of 1 s at) s ≡ f.text
-    text-is =
+    text_is : part (first_of 1 s at - length f.text) (first_of 1 s at) s ≡ f.text
+    text_is =
         let w : first_of 1 s at - (at + (m + 1)) ≡ k - (m + 1) = omega arith in
-        rw (from_is, w, ← drop-drop (m + 1) at s) (sym (drop-take (m + 1) k rest) ∙ (parted (before 1 rest) f h).text)
+        rw (from_is, w, ← drop-drop (m + 1) at s) (sym (drop_take (m + 1) k rest) ∙ (parted (before 1 rest) f h).text)
 
     -- the piece, its SOH, and the rest
     piece : rest ≡ (decimal f.tag ++ (61 ∷ f.text)) ++ (1 ∷ drop (first_of 1 s at + 1) s)
     piece =
         let r = drop (first_of 1 s at + 1) s in
         let l : k < length rest = rw length-drop (omega arith) in
-        let a : drop k rest ≡ 1 ∷ r = at_ahead 1 rest l ∙ ap (λ (u : List ℕ). 1 ∷ u) behind-is in
-        sym (take-append-drop k rest) ∙ ap (λ (u : List ℕ). before 1 rest ++ u) a ∙ ap (λ (p : List ℕ). p ++ (1 ∷ r)) (parted-bytes (before 1 rest) f h)
+        let a : drop k rest ≡ 1 ∷ r = at_ahead 1 rest l ∙ ap (λ (u : List ℕ). 1 ∷ u) behind_is in
+        sym (take-append-drop k rest) ∙ ap (λ (u : List ℕ). before 1 rest ++ u) a ∙ ap (λ (p : List ℕ). p ++ (1 ∷ r)) (parted_bytes (before 1 rest) f h)
 
-    piece-found : Found s at f.tag (first_of 1 s at - length f.text) (first_of 1 s at)
+    piece_found : Found s at f.tag (first_of 1 s at - length f.text) (first_of 1 s at)
     unfolding field_bytes
-    piece-found =
+    piece_found =
         record {
           low = omega (arith, from_is);
           some = omega (arith, places.0, (parted (before 1 rest) f h).some);
           high = high;
-          fair = rw text-is (parted-fair (before 1 rest) f h (before-free 1 rest));
-          same = rw text-is (piece ∙ simp append_assoc);
+          fair = rw text_is (parted_fair (before 1 rest) f h (before_free 1 rest));
+          same = rw text_is (piece ∙ simp append_assoc);
         }
 
   -- what is left, by the field at its start
@@ -169,16 +169,16 @@ module _ (s : List ℕ) (at : ℕ) where
       pick : (o : Option Field) → field_of (before 1 rest) ≡ o → first_of 1 s at < length s
           → x.more o (x.read [] (drop (first_of 1 s at + 1) s)) ≡ after x s (placed (first_of 1 s at) o)
       pick none e l = x.none (x.read [] (drop (first_of 1 s at + 1) s))
-      pick (some f) e l = rw (text-is f l e)
+      pick (some f) e l = rw (text_is f l e)
 
       go : (z : Bool) → ltb (first_of 1 s at) (length s) ≡ z
           → x.read [] rest ≡ after x s (cond z (placed (first_of 1 s at) (field_of (before 1 rest))) Step.No)
       go true e =
           let l : first_of 1 s at < length s = ltb-true (first_of 1 s at) (length s) e in
-          to-soh x rest [] (rw length-drop (omega arith)) ∙ rw behind-is (pick (field_of (before 1 rest)) refl l)
+          to_soh x rest [] (rw length-drop (omega arith)) ∙ rw behind_is (pick (field_of (before 1 rest)) refl l)
       go false e =
           let l : length s ≤ first_of 1 s at = ltb-false (first_of 1 s at) (length s) e in
-          to_end x rest [] (rw length-drop (omega (arith, ahead-le 1 rest, length-drop at s)))
+          to_end x rest [] (rw length-drop (omega (arith, ahead_le 1 rest, length-drop at s)))
           ∙ ap x.over (drop-cons s at 0 low) ∙ x.rest (get_or s at 0) (drop (suc at) s)
 
   -- what is known of the field at a place
@@ -193,7 +193,7 @@ module _ (s : List ℕ) (at : ℕ) where
           let a : f.tag ≡ t = cc in
           let b : first_of 1 s at - length f.text ≡ from = cc in
           let d : first_of 1 s at ≡ to = cc in
-          rw (← a, ← b, ← d) (piece-found f (ltb-true (first_of 1 s at) (length s) p) q)
+          rw (← a, ← b, ← d) (piece_found f (ltb-true (first_of 1 s at) (length s) p) q)
       go false o p q h = let z : ◌≡◌ {A = ℕ} 0 1 = cc in absurd (omega arith)
 
 -- ---- the walk along a chain
@@ -201,9 +201,9 @@ chain : Reads (Option (List Field))
 unfolding cut
 chain = record { bad = none; over = closed; more = then; read = cut; rest = λ b bs. refl; none = λ r. refl; nil = λ p. refl; cons = λ p b bs. refl }
 
-is-some-then : (f : Field) (r : Option (List Field)) → is_some (then (some f) r) ≡ is_some r
-is-some-then f none = refl
-is-some-then f (some fs) = refl
+is_some_then : (f : Field) (r : Option (List Field)) → is_some (then (some f) r) ≡ is_some r
+is_some_then f none = refl
+is_some_then f (some fs) = refl
 
 module _ (s : List ℕ) (at : ℕ) where
   pub ends : at < length s → field_at s at ≡ Step.No → is_some (fields_of (drop at s)) ≡ false
@@ -213,7 +213,7 @@ module _ (s : List ℕ) (at : ℕ) where
   pub goes_on_lem : {t from to : ℕ} → at < length s → field_at s at ≡ Step.Is t from to
       → is_some (fields_of (drop at s)) ≡ is_some (fields_of (drop (to + 1) s))
   unfolding fields_of chain
-  goes_on_lem {t} {from} {to} l e = rw (step s at chain l, e) (is-some-then (field t (part from to s)) (fields_of (drop (to + 1) s)))
+  goes_on_lem {t} {from} {to} l e = rw (step s at chain l, e) (is_some_then (field t (part from to s)) (fields_of (drop (to + 1) s)))
 
   pub all_read : length s ≤ at → fields_of (drop at s) ≡ some []
   unfolding fields_of cut
@@ -229,24 +229,24 @@ module _ (s : List ℕ) (at : ℕ) where
   unfolding run
   walked h = rw (drop_of_length-le s h)
 
-  pub left-on : {t from to : ℕ} → at < length s → field_at s at ≡ Step.Is t from to → left s at ≡ field t (part from to s) ∷ left s (to + 1)
+  pub left_on : {t from to : ℕ} → at < length s → field_at s at ≡ Step.Is t from to → left s at ≡ field t (part from to s) ∷ left s (to + 1)
   unfolding fields
-  left-on l e = step s at fields l ∙ rw e
+  left_on l e = step s at fields l ∙ rw e
 
-  pub left-no : at < length s → field_at s at ≡ Step.No → left s at ≡ broken ∷ []
+  pub left_no : at < length s → field_at s at ≡ Step.No → left s at ≡ broken ∷ []
   unfolding fields
-  left-no l e = step s at fields l ∙ rw e
+  left_no l e = step s at fields l ∙ rw e
 
 -- the fields that are left are the chain, or end with what is none
 abbrev Comes : Option (List Field) → List Field → Type 0
 Comes none gs = (fs : List Field) × (gs ≡ fs ++ (broken ∷ []))
 Comes (some fs) gs = gs ≡ fs
 
-run-comes : (bs p : List ℕ) → Comes (cut p bs) (run p bs)
+run_comes : (bs p : List ℕ) → Comes (cut p bs) (run p bs)
 unfolding cut run
-run-comes [] [] = refl
-run-comes [] (b ∷ p) = ([], refl)
-run-comes (b ∷ bs) p = go (eqb b 1) (run-comes bs []) (run-comes bs (p ++ (b ∷ [])))
+run_comes [] [] = refl
+run_comes [] (b ∷ p) = ([], refl)
+run_comes (b ∷ bs) p = go (eqb b 1) (run_comes bs []) (run_comes bs (p ++ (b ∷ [])))
   where
     one : (o : Option Field) (r : Option (List Field)) → Comes r (run [] bs) → Comes (then o r) (onto o (run [] bs))
     one none r h = ([], refl)
@@ -259,33 +259,33 @@ run-comes (b ∷ bs) p = go (eqb b 1) (run-comes bs []) (run-comes bs (p ++ (b �
     go false i j = j
 
 module _ (s : List ℕ) (at : ℕ) where
-  pub left-whole : {fs : List Field} → fields_of (drop at s) ≡ some fs → left s at ≡ fs
+  pub left_whole : {fs : List Field} → fields_of (drop at s) ≡ some fs → left s at ≡ fs
   unfolding fields_of
-  left-whole e = rw e at (run-comes (drop at s) [])
+  left_whole e = rw e at (run_comes (drop at s) [])
 
-  pub left-broken : fields_of (drop at s) ≡ none → (fs : List Field) × (left s at ≡ fs ++ (broken ∷ []))
+  pub left_broken : fields_of (drop at s) ≡ none → (fs : List Field) × (left s at ≡ fs ++ (broken ∷ []))
   unfolding fields_of
-  left-broken e = rw e at (run-comes (drop at s) [])
+  left_broken e = rw e at (run_comes (drop at s) [])
 
 -- every tag is at least 1
 abbrev pub all_tagged : List Field → Bool
 all_tagged [] = true
 all_tagged (f ∷ fs) = leb 1 f.tag && all_tagged fs
 
-run-tagged : (bs p : List ℕ) → all_tagged (run p bs) ≡ true
+run_tagged : (bs p : List ℕ) → all_tagged (run p bs) ≡ true
 unfolding run
-run-tagged [] [] = refl
-run-tagged [] (b ∷ p) = refl
-run-tagged (b ∷ bs) p = go (eqb b 1) (run-tagged bs []) (run-tagged bs (p ++ (b ∷ [])))
+run_tagged [] [] = refl
+run_tagged [] (b ∷ p) = refl
+run_tagged (b ∷ bs) p = go (eqb b 1) (run_tagged bs []) (run_tagged bs (p ++ (b ∷ [])))
   where
     one : (o : Option Field) → field_of p ≡ o → all_tagged (run [] bs) ≡ true → all_tagged (onto o (run [] bs)) ≡ true
     one none q i = refl
-    one (some f) q i = rw (le-leb 1 f.tag (ranged-in 5 1 99999 (before 61 p) (parted p f q).tag).low, i)
+    one (some f) q i = rw (le-leb 1 f.tag (ranged_in 5 1 99999 (before 61 p) (parted p f q).tag).low, i)
 
     go : (t : Bool) → all_tagged (run [] bs) ≡ true → all_tagged (run (p ++ (b ∷ [])) bs) ≡ true
         → all_tagged (cond t (onto (field_of p) (run [] bs)) (run (p ++ (b ∷ [])) bs)) ≡ true
     go true i j = one (field_of p) refl i
     go false i j = j
 
-pub left-tagged : (s : List ℕ) (at : ℕ) → all_tagged (left s at) ≡ true
-left-tagged s at = run-tagged (drop at s) []
+pub left_tagged : (s : List ℕ) (at : ℕ) → all_tagged (left s at) ≡ true
+left_tagged s at = run_tagged (drop at s) []

@@ -14,10 +14,10 @@ use Rattle.book.specs.declared.Book.{Book}
 use Rattle.book.specs.declared.Update.{Update}
 use Rattle.book.specs.Rules.{Lists}
 use Rattle.book.specs.Canonical.{KeptBook, book_of}
-use Rattle.book.proofs.Tests.{by-test}
-use Rattle.book.proofs.Canon.{kept-book-of}
+use Rattle.book.proofs.Tests.{by_test}
+use Rattle.book.proofs.Canon.{kept_book_of}
 use Rattle.cells.specs.Cells.{tab, side_words, queued_words, zeros, side_size}
-use Rattle.cells.proofs.Windows.{length-side-words}
+use Rattle.cells.proofs.Windows.{length_side_words}
 use Rattle.heading.specs.Marks.{marked}
 use Rattle.message.specs.Message.{Message, numbered, snapshot, refused}
 use Rattle.board.specs.Board.{look}
@@ -27,19 +27,19 @@ use Rattle.store.specs.Meaning.{queued_at, State, st, board_in}
 use Rattle.store.specs.Canon.{Formed}
 use Rattle.store.specs.Steps.{gap_s}
 use Rattle.store.specs.Answers.{FedS}
-use Rattle.store.proofs.Cleared.{gap-canon}
-use Rattle.store.proofs.Regions.{Agree, agree-sets, agree-zeros, agree-none, agree-wider, agree_then}
+use Rattle.store.proofs.Cleared.{gap_canon}
+use Rattle.store.proofs.Regions.{Agree, agree_sets, agree_zeros, agree_none, agree_wider, agree_then}
 use Rattle.queue.specs.Joins.{let_go_s, settle_s, join_one_s, join_all_s, how_many, over_s, join_s}
-use Rattle.queue.proofs.Joining.{one-followed, one-queued, join-formed}
+use Rattle.queue.proofs.Joining.{one_followed, one_queued, join_formed}
 use Rattle.deliver.specs.Gives.{apply_s, break_s, land_s, give_to_s, give_s, give_all_s}
 use Rattle.deliver.proofs.Applying.{applies}
-use Rattle.deliver.proofs.Giving.{give-stays, give-formed}
+use Rattle.deliver.proofs.Giving.{give_stays, give_formed}
 use Rattle.count.specs.Counts.{counted_s, count_s, number_s}
-use Rattle.count.proofs.Board.{counted-formed}
+use Rattle.count.proofs.Board.{counted_formed}
 use Rattle.taking.specs.Replays.{replay_b, live_s, take_s, snap_s}
 use Rattle.terms.specs.Terms.{refusal_of}
-use Rattle.taking.proofs.Outcomes.{replay-kept}
-use Rattle.taking.proofs.Board.{not-refused}
+use Rattle.taking.proofs.Outcomes.{replay_kept}
+use Rattle.taking.proofs.Board.{not_refused}
 use Rattle.channel.specs.Feeds.{aimed_at, feed_s}
 
 -- t's store is s's but for numbers of the 7,168 from the records on
@@ -64,93 +64,93 @@ beyond lo xs ys a =
 
 -- ---- the queue
 
-let-go-within : (s : State) → Within s (let_go_s s)
-let-go-within s = agree-wider 32 7168 (omega arith) (omega arith) (agree-zeros s.store 4256 2816)
+let_go_within : (s : State) → Within s (let_go_s s)
+let_go_within s = agree_wider 32 7168 (omega arith) (omega arith) (agree_zeros s.store 4256 2816)
 
-settle-within : (s : State) → Within s (settle_s s)
-settle-within s = by-test (Within s) (eqb s.head.marks 0) (λ _. let-go-within s) (λ _. agree-none 32 7168 s.store)
+settle_within : (s : State) → Within s (settle_s s)
+settle_within s = by_test (Within s) (eqb s.head.marks 0) (λ _. let_go_within s) (λ _. agree_none 32 7168 s.store)
 
-one-within : (n : ℕ) (u : Update) (s : State) → s.head.queued + cond (ltb u.who s.head.followed) 1 0 ≤ 256 → Within s (join_one_s n u s)
-one-within n u s r =
-    by-test (Within s) (ltb u.who s.head.followed)
-    (λ _. agree-wider 32 7168 (omega arith) (omega arith) (agree-sets s.store (slot_of s.head.queued) (queued_words n u) 10 refl))
-    (λ _. agree-none 32 7168 s.store)
+one_within : (n : ℕ) (u : Update) (s : State) → s.head.queued + cond (ltb u.who s.head.followed) 1 0 ≤ 256 → Within s (join_one_s n u s)
+one_within n u s r =
+    by_test (Within s) (ltb u.who s.head.followed)
+    (λ _. agree_wider 32 7168 (omega arith) (omega arith) (agree_sets s.store (slot_of s.head.queued) (queued_words n u) 10 refl))
+    (λ _. agree_none 32 7168 s.store)
 
-all-within : (n : ℕ) (us : List Update) (s : State) → s.head.queued + how_many s.head.followed us ≤ 256 → Within s (join_all_s n us s)
+all_within : (n : ℕ) (us : List Update) (s : State) → s.head.queued + how_many s.head.followed us ≤ 256 → Within s (join_all_s n us s)
 unfolding join_all_s how_many
-all-within n [] s h = agree-none 32 7168 s.store
-all-within n (u ∷ us) s h =
-    agree_then (one-within n u s (omega arith)) (all-within n us (join_one_s n u s) (rw (one-queued n u s, one-followed n u s) (omega arith)))
+all_within n [] s h = agree_none 32 7168 s.store
+all_within n (u ∷ us) s h =
+    agree_then (one_within n u s (omega arith)) (all_within n us (join_one_s n u s) (rw (one_queued n u s, one_followed n u s) (omega arith)))
 
-join-within : (n : ℕ) (us : List Update) (s : State) → Within s (join_s n us s)
+join_within : (n : ℕ) (us : List Update) (s : State) → Within s (join_s n us s)
 unfolding join_s
-join-within n us s = by-test (Within s) (over_s us s) (λ _. let-go-within s) (λ e. all-within n us s (ltb-false 256 _ e))
+join_within n us s = by_test (Within s) (over_s us s) (λ _. let_go_within s) (λ e. all_within n us s (ltb-false 256 _ e))
 
 -- ---- entries given
 
-break-within : (i r : ℕ) (s : State) → i < 16 → Within s (break_s i r s)
-break-within i r s h =
+break_within : (i r : ℕ) (s : State) → i < 16 → Within s (break_s i r s)
+break_within i r s h =
     let xs = s.store in
     let ys = sets xs (bids_of i) (zeros 256) in
-    agree_then (agree-wider 32 7168 (omega arith) (omega arith) (agree-zeros xs (bids_of i) 256))
-    (agree-wider 32 7168 (omega arith) (omega arith) (agree-sets ys (reason_of i) (r ∷ []) 1 refl))
+    agree_then (agree_wider 32 7168 (omega arith) (omega arith) (agree_zeros xs (bids_of i) 256))
+    (agree_wider 32 7168 (omega arith) (omega arith) (agree_sets ys (reason_of i) (r ∷ []) 1 refl))
 
-land-within : (i : ℕ) (u : Update) (s : State) → Formed s → i < s.head.followed → Within s (land_s i (apply_s i u s.store) s)
-land-within i u s f l =
+land_within : (i : ℕ) (u : Update) (s : State) → Formed s → i < s.head.followed → Within s (land_s i (apply_s i u s.store) s)
+land_within i u s f l =
     let t = apply_s i u s.store in
     let few : s.head.followed ≤ 16 = f.few in
-    let a : Agree 32 7168 s.store t.store = agree-wider 32 7168 (omega arith) (omega arith) (applies s f i l u).agree in
-    by-test (Within s) (eqb t.reason 0) (λ _. a) (λ _. agree_then a (break-within i t.reason (st s.head t.store) (omega arith)))
+    let a : Agree 32 7168 s.store t.store = agree_wider 32 7168 (omega arith) (omega arith) (applies s f i l u).agree in
+    by_test (Within s) (eqb t.reason 0) (λ _. a) (λ _. agree_then a (break_within i t.reason (st s.head t.store) (omega arith)))
 
-to-within : (i : ℕ) (u : Update) (s : State) → Formed s → i < s.head.followed → Within s (give_to_s i u s)
-to-within i u s f l = by-test (Within s) (marked s.head.marks i) (λ _. agree-none 32 7168 s.store) (λ _. land-within i u s f l)
+to_within : (i : ℕ) (u : Update) (s : State) → Formed s → i < s.head.followed → Within s (give_to_s i u s)
+to_within i u s f l = by_test (Within s) (marked s.head.marks i) (λ _. agree_none 32 7168 s.store) (λ _. land_within i u s f l)
 
-give-within : (u : Update) (s : State) → Formed s → Within s (give_s u s)
-give-within u s f = give-stays (Within s) u s f (agree-none 32 7168 s.store) (λ i t g l w. agree_then w (to-within i u t g l))
+give_within : (u : Update) (s : State) → Formed s → Within s (give_s u s)
+give_within u s f = give_stays (Within s) u s f (agree_none 32 7168 s.store) (λ i t g l w. agree_then w (to_within i u t g l))
 
-gives-within : (us : List Update) (s : State) → Formed s → Within s (give_all_s us s)
+gives_within : (us : List Update) (s : State) → Formed s → Within s (give_all_s us s)
 unfolding give_all_s
-gives-within [] s f = agree-none 32 7168 s.store
-gives-within (u ∷ us) s f = agree_then (give-within u s f) (gives-within us (give_s u s) (give-formed u s f))
+gives_within [] s f = agree_none 32 7168 s.store
+gives_within (u ∷ us) s f = agree_then (give_within u s f) (gives_within us (give_s u s) (give_formed u s f))
 
 -- ---- a number
 
-count-within : (a n heard : ℕ) (us : List Update) (s : State) → Formed s → Within s (count_s a n heard us s).state
+count_within : (a n heard : ℕ) (us : List Update) (s : State) → Formed s → Within s (count_s a n heard us s).state
 unfolding count_s
-count-within a n heard us s f =
+count_within a n heard us s f =
     let t = counted_s n heard s in
-    let c = counted-formed n heard s f in
-    by-test (λ (o : FedS). Within s o.state) (eqb s.head.marks 0) (λ _. gives-within us t c)
-    (λ _. agree_then (join-within n us t) (gives-within us (join_s n us t) (join-formed n us t c)))
+    let c = counted_formed n heard s f in
+    by_test (λ (o : FedS). Within s o.state) (eqb s.head.marks 0) (λ _. gives_within us t c)
+    (λ _. agree_then (join_within n us t) (gives_within us (join_s n us t) (join_formed n us t c)))
 
-number-within : (n heard : ℕ) (us : List Update) (s : State) → Formed s → Within s (number_s n heard us s).state
+number_within : (n heard : ℕ) (us : List Update) (s : State) → Formed s → Within s (number_s n heard us s).state
 unfolding number_s
-number-within n heard us s f =
-    by-test (λ (o : FedS). Within s o.state) (leb n s.head.number) (λ _. agree-none 32 7168 s.store)
-    (λ _. by-test (λ (o : FedS). Within s o.state) (leb n (s.head.number + 1)) (λ _. count-within 0 n heard us s f)
+number_within n heard us s f =
+    by_test (λ (o : FedS). Within s o.state) (leb n s.head.number) (λ _. agree_none 32 7168 s.store)
+    (λ _. by_test (λ (o : FedS). Within s o.state) (leb n (s.head.number + 1)) (λ _. count_within 0 n heard us s f)
     (λ _.
-    agree_then (agree-wider 32 7168 (omega arith) (omega arith) (agree-zeros s.store 160 6912))
-    (count-within 1 n heard us (gap_s n s) (gap-canon n s f).formed)))
+    agree_then (agree_wider 32 7168 (omega arith) (omega arith) (agree_zeros s.store 160 6912))
+    (count_within 1 n heard us (gap_s n s) (gap_canon n s f).formed)))
 
 -- ---- a snapshot
 
-live-within : (i : ℕ) (b : Book) (s : State) → i < 16 → KeptBook b → Within s (live_s i b s)
-live-within i b s h k =
+live_within : (i : ℕ) (b : Book) (s : State) → i < 16 → KeptBook b → Within s (live_s i b s)
+live_within i b s h k =
     let xs = s.store in
     let ys = sets xs (bids_of i) (side_words b.bids) in
     let zs = sets ys (offers_of i) (side_words b.offers) in
-    agree_then (agree-wider 32 7168 (omega arith) (omega arith) (agree-sets xs (bids_of i) (side_words b.bids) side_size (length-side-words b.bids k.bids.full)))
-    (agree_then (agree-wider 32 7168 (omega arith) (omega arith) (agree-sets ys (offers_of i) (side_words b.offers) side_size (length-side-words b.offers k.offers.full)))
-    (agree-wider 32 7168 (omega arith) (omega arith) (agree-sets zs (reason_of i) (0 ∷ []) 1 refl)))
+    agree_then (agree_wider 32 7168 (omega arith) (omega arith) (agree_sets xs (bids_of i) (side_words b.bids) side_size (length_side_words b.bids k.bids.full)))
+    (agree_then (agree_wider 32 7168 (omega arith) (omega arith) (agree_sets ys (offers_of i) (side_words b.offers) side_size (length_side_words b.offers k.offers.full)))
+    (agree_wider 32 7168 (omega arith) (omega arith) (agree_sets zs (reason_of i) (0 ∷ []) 1 refl)))
 
 take_within : (i S : ℕ) (b : Book) (s : State) → i < 16 → KeptBook b → Within s (take_s i S b s).state
 unfolding take_s
 take_within i S b s h k =
     let qs = tab (queued_at s.store) s.head.queued in
     let t = replay_b i S qs b in
-    by-test (λ (o : FedS). Within s o.state) (eqb t.reason 0)
-    (λ _. agree_then (live-within i t.book s h (replay-kept i S qs b k)) (settle-within (live_s i t.book s)))
-    (λ _. break-within i t.reason s h)
+    by_test (λ (o : FedS). Within s o.state) (eqb t.reason 0)
+    (λ _. agree_then (live_within i t.book s h (replay_kept i S qs b k)) (settle_within (live_s i t.book s)))
+    (λ _. break_within i t.reason s h)
 
 -- a book that is not too wide is kept
 narrow : (l : Lists) → too_wide l ≡ false → KeptBook (book_of l)
@@ -158,24 +158,24 @@ narrow l e = go (ltb 20 (length l.bids)) refl e
   where
     go : (t : Bool) → ltb 20 (length l.bids) ≡ t → (t || ltb 20 (length l.offers)) ≡ false → KeptBook (book_of l)
     go true h g = let z : ◌≡◌ {A = ℕ} 0 1 = cc in absurd (omega arith)
-    go false h g = kept-book-of l (ltb-false 20 _ h) (ltb-false 20 _ g)
+    go false h g = kept_book_of l (ltb-false 20 _ h) (ltb-false 20 _ g)
 
-snap-within : (d S : ℕ) (us : List Update) (s : State) → Formed s → Within s (snap_s d S us s).state
+snap_within : (d S : ℕ) (us : List Update) (s : State) → Formed s → Within s (snap_s d S us s).state
 unfolding snap_s
-snap-within d S us s f =
+snap_within d S us s f =
     let i = look d (board_in s).insts in
     let few : s.head.followed ≤ 16 = f.few in
-    by-test (λ (o : FedS). Within s o.state) (eqb (refusal_of s.head i S) 0)
-    (λ e. by-test (λ (o : FedS). Within s o.state) (too_wide (shown us)) (λ _. agree-none 32 7168 s.store)
+    by_test (λ (o : FedS). Within s o.state) (eqb (refusal_of s.head i S) 0)
+    (λ e. by_test (λ (o : FedS). Within s o.state) (too_wide (shown us)) (λ _. agree_none 32 7168 s.store)
     (λ w.
-    let l = not-refused S us s f i (eqb-true _ _ e) in
+    let l = not_refused S us s f i (eqb-true _ _ e) in
     take_within i S (book_of (shown us)) s (omega arith) (narrow (shown us) w)))
-    (λ _. agree-none 32 7168 s.store)
+    (λ _. agree_none 32 7168 s.store)
 
 -- ---- a message
 
-pub feed-within : (m : Message) (s : State) → Formed s → Within s (feed_s m s).state
+pub feed_within : (m : Message) (s : State) → Formed s → Within s (feed_s m s).state
 unfolding feed_s
-feed-within (numbered n heard us) s f = number-within n heard (aimed_at s us) s f
-feed-within (snapshot h us) s f = snap-within h.id h.last (aimed_at s us) s f
-feed-within (refused why) s f = agree-none 32 7168 s.store
+feed_within (numbered n heard us) s f = number_within n heard (aimed_at s us) s f
+feed_within (snapshot h us) s f = snap_within h.id h.last (aimed_at s us) s f
+feed_within (refused why) s f = agree_none 32 7168 s.store

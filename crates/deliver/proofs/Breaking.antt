@@ -9,28 +9,28 @@ use lib.Bits.{or_add_and, and_le_r}
 use lib.Seq.{sets, get_or-set_same}
 use borrow.Author.Tests.{ne_eqb}
 use Rattle.book.specs.Sides.{no_book}
-use Rattle.book.proofs.Canon.{kept-no-book}
+use Rattle.book.proofs.Canon.{kept_no_book}
 use Rattle.cells.specs.Cells.{zeros}
 use Rattle.cells.proofs.Stores.{below_or}
-use Rattle.cells.proofs.Tables.{in-zeros}
+use Rattle.cells.proofs.Tables.{in_zeros}
 use Rattle.heading.specs.Marks.{marked, with_mark}
-use Rattle.heading.proofs.Bits.{marked-with, mark-own, mark-lt}
+use Rattle.heading.proofs.Bits.{marked_with, mark_own, mark_lt}
 use Rattle.board.specs.Board.{at, put, broken}
 use Rattle.store.specs.Layout.{id_of, reason_of, bids_of}
 use Rattle.store.specs.Meaning.{inst_at, State, st, board_in}
 use Rattle.store.specs.Canon.{Formed}
-use Rattle.store.proofs.Regions.{Agree, Apart, agree-sets, agree-zeros, number-apart}
-use Rattle.store.proofs.Decode.{inst-is, inst-marks, inst-apart, inst-other, book-apart, own-zeros, queue-behind, at-board, put-board}
-use Rattle.store.proofs.Kept.{formed-book, formed-reason}
+use Rattle.store.proofs.Regions.{Agree, Apart, agree_sets, agree_zeros, number_apart}
+use Rattle.store.proofs.Decode.{inst_is, inst_marks, inst_apart, inst_other, book_apart, own_zeros, queue_behind, at_board, put_board}
+use Rattle.store.proofs.Kept.{formed_book, formed_reason}
 use Rattle.deliver.specs.Gives.{break_s}
 
 -- a mark is set: the others stay, and the number is not 0 where it was not
-pub mark-other : (m i j : ℕ) → i < 16 → j < 16 → (j ≡ i → ⊥) → marked (with_mark m i) j ≡ marked m j
-mark-other m i j h l n = marked-with m i j h l ∙ rw (ne_eqb i j (λ e. n (sym e)))
+pub mark_other : (m i j : ℕ) → i < 16 → j < 16 → (j ≡ i → ⊥) → marked (with_mark m i) j ≡ marked m j
+mark_other m i j h l n = marked_with m i j h l ∙ rw (ne_eqb i j (λ e. n (sym e)))
 
-pub mark-stays : (m i : ℕ) → with_mark m i ≡ 0 → m ≡ 0
+pub mark_stays : (m i : ℕ) → with_mark m i ≡ 0 → m ≡ 0
 unfolding with_mark
-mark-stays m i e = omega (arith, or_add_and m (2 ^ i), and_le_r m (2 ^ i))
+mark_stays m i e = omega (arith, or_add_and m (2 ^ i), and_le_r m (2 ^ i))
 
 -- the record of i lies apart from the reason of another
 pub record_apart : (i j : ℕ) → (j ≡ i → ⊥) → Apart (id_of j) 2 (reason_of i) (reason_of i + 1)
@@ -43,36 +43,36 @@ module _ (s : State) (f : Formed s) (i : ℕ) (l : i < s.head.followed) (r : ℕ
   few : i < 16
   few = let n = f.few in omega arith
 
-  in-book : Agree (bids_of i) (bids_of i + 256) s.store emptied
-  in-book = agree-zeros s.store (bids_of i) 256
+  in_book : Agree (bids_of i) (bids_of i + 256) s.store emptied
+  in_book = agree_zeros s.store (bids_of i) 256
 
-  in-record : Agree (reason_of i) (reason_of i + 1) emptied (break_s i r s).store
-  in-record = agree-sets emptied (reason_of i) (r ∷ []) 1 refl
+  in_record : Agree (reason_of i) (reason_of i + 1) emptied (break_s i r s).store
+  in_record = agree_sets emptied (reason_of i) (r ∷ []) 1 refl
 
-  pub break-formed : Formed (break_s i r s)
-  break-formed =
+  pub break_formed : Formed (break_s i r s)
+  break_formed =
       let h = few in
       let long = f.long in
       let e : Formed (st s.head emptied) =
-      formed-book s i f l (omega arith) (omega arith) in-book (λ k p o _. in-zeros s.store (bids_of i) 256 k p o (omega arith))
-      (rw (own-zeros s.store i f.long few) kept-no-book) in
-      formed-reason (st s.head emptied) i (with_mark s.head.marks i) e l in-record (mark-lt s.head.marks i s.head.followed l f.marks)
+      formed_book s i f l (omega arith) (omega arith) in_book (λ k p o _. in_zeros s.store (bids_of i) 256 k p o (omega arith))
+      (rw (own_zeros s.store i f.long few) kept_no_book) in
+      formed_reason (st s.head emptied) i (with_mark s.head.marks i) e l in_record (mark_lt s.head.marks i s.head.followed l f.marks)
 
-  pub break-board : board_in (break_s i r s) ≡ put i (broken (at i (board_in s)) r) (board_in s)
+  pub break_board : board_in (break_s i r s) ≡ put i (broken (at i (board_in s)) r) (board_in s)
   unfolding inst_at
-  break-board =
+  break_board =
       let h = few in
       let long = f.long in
       let m = s.head.marks in
-      let n = in-book.long in
+      let n = in_book.long in
       let ys = (break_s i r s).store in
-      rw (at-board i s l) (put-board i (with_mark m i) ys s _ l f.few
-      (inst-is (with_mark m i) ys i _ r true no_book
-      (number-apart in-record (id_of i) (inl (omega arith)) ∙ number-apart in-book (id_of i) (inl (omega arith)))
-      (mark-own m i few)
+      rw (at_board i s l) (put_board i (with_mark m i) ys s _ l f.few
+      (inst_is (with_mark m i) ys i _ r true no_book
+      (number_apart in_record (id_of i) (inl (omega arith)) ∙ number_apart in_book (id_of i) (inl (omega arith)))
+      (mark_own m i few)
       (get_or-set_same emptied (reason_of i) r 0 (omega arith))
-      (book-apart in-record i (inr (omega arith)) ∙ own-zeros s.store i f.long few))
+      (book_apart in_record i (inr (omega arith)) ∙ own_zeros s.store i f.long few))
       (λ j q o.
-      inst-marks (with_mark m i) m ys j (mark-other m i j few q o) ∙ inst-apart in-record m j (record_apart i j o) (inr (omega arith))
-      ∙ inst-other in-book m i j (omega arith) (omega arith) q o)
-      (queue-behind in-record s.head.queued (omega arith) ∙ queue-behind in-book s.head.queued (omega arith)))
+      inst_marks (with_mark m i) m ys j (mark_other m i j few q o) ∙ inst_apart in_record m j (record_apart i j o) (inr (omega arith))
+      ∙ inst_other in_book m i j (omega arith) (omega arith) q o)
+      (queue_behind in_record s.head.queued (omega arith) ∙ queue_behind in_book s.head.queued (omega arith)))

@@ -8,34 +8,34 @@ use Rattle.book.specs.declared.Side.{Side}
 use Rattle.book.specs.declared.Update.{Update}
 use Rattle.book.specs.declared.Done.{Done}
 use Rattle.book.specs.Sides.{breach_of, first_changed}
-use Rattle.book.proofs.Breaches.{step-reason, step-refused}
-use Rattle.book.proofs.Untouched.{before-changed}
+use Rattle.book.proofs.Breaches.{step_reason, step_refused}
+use Rattle.book.proofs.Untouched.{before_changed}
 use Rattle.cells.specs.Cells.{side_at, side_words, side_size}
-use Rattle.cells.proofs.Windows.{length-side-at, side-again}
+use Rattle.cells.proofs.Windows.{length_side_at, side_again}
 use Rattle.deliver.specs.Gives.{taken, worked, on_side_s}
 
-taken-by : {r q : ℕ} {xs ys : List ℕ} → r ≡ q → xs ≡ ys → taken r xs ≡ taken q ys
-taken-by h g = cc
+taken_by : {r q : ℕ} {xs ys : List ℕ} → r ≡ q → xs ≡ ys → taken r xs ≡ taken q ys
+taken_by h g = cc
 
 -- s is the side at a, and r its breach
 module _ (xs : List ℕ) (a : ℕ) (u : Update) {s : Side} (at : s ≡ side_at xs a) {r : ℕ} (reason : r ≡ breach_of s.held u.action u.place) where
   steps : taken (worked s u).reason (sets xs a (side_words (worked s u).side)) ≡ on_side_s a u xs
   steps = ap (λ (t : Side). taken (worked t u).reason (sets xs a (side_words (worked t u).side))) at
 
-  pub side-refused : a + side_size ≤ length xs → (r ≡ 0 → ⊥) → taken r xs ≡ on_side_s a u xs
-  side-refused h n =
-      let e = step-refused s u.action u.place u.entry (λ z. n (reason ∙ z)) in
-      let w : sets xs a (side_words s) ≡ xs = ap (λ (t : Side). sets xs a (side_words t)) at ∙ side-again xs a h in
-      taken-by (reason ∙ ap (λ (d : Done). d.reason) e) (sym w ∙ ap (λ (d : Done). sets xs a (side_words d.side)) e)
+  pub side_refused : a + side_size ≤ length xs → (r ≡ 0 → ⊥) → taken r xs ≡ on_side_s a u xs
+  side_refused h n =
+      let e = step_refused s u.action u.place u.entry (λ z. n (reason ∙ z)) in
+      let w : sets xs a (side_words s) ≡ xs = ap (λ (t : Side). sets xs a (side_words t)) at ∙ side_again xs a h in
+      taken_by (reason ∙ ap (λ (d : Done). d.reason) e) (sym w ∙ ap (λ (d : Done). sets xs a (side_words d.side)) e)
       ∙ steps
 
-  pub side-worked : {t : Side} → r ≡ 0 → t ≡ (worked s u).side → taken 0 (sets xs a (side_words t)) ≡ on_side_s a u xs
-  side-worked z h =
-      taken-by (sym z ∙ reason ∙ sym (step-reason s u.action u.place u.entry)) (ap (λ (t : Side). sets xs a (side_words t)) h) ∙ steps
+  pub side_worked : {t : Side} → r ≡ 0 → t ≡ (worked s u).side → taken 0 (sets xs a (side_words t)) ≡ on_side_s a u xs
+  side_worked z h =
+      taken_by (sym z ∙ reason ∙ sym (step_reason s u.action u.place u.entry)) (ap (λ (t : Side). sets xs a (side_words t)) h) ∙ steps
 
 -- the places before the first that the entry may change stand there already
-pub side-stands : (xs : List ℕ) (a : ℕ) (u : Update) {s t : Side} {from : ℕ} → s ≡ side_at xs a → t ≡ (worked s u).side
+pub side_stands : (xs : List ℕ) (a : ℕ) (u : Update) {s t : Side} {from : ℕ} → s ≡ side_at xs a → t ≡ (worked s u).side
     → from ≡ first_changed u.action (u.place - 1) → take from t.places ≡ take from (side_at xs a).places
-side-stands xs a u {s} at h g =
-    let full : length s.places ≡ 20 = ap (λ (r : Side). length r.places) at ∙ length-side-at xs a in
-    rw (g, h) (before-changed s u.place full u.action u.entry ∙ ap (λ (r : Side). take (first_changed u.action (u.place - 1)) r.places) at)
+side_stands xs a u {s} at h g =
+    let full : length s.places ≡ 20 = ap (λ (r : Side). length r.places) at ∙ length_side_at xs a in
+    rw (g, h) (before_changed s u.place full u.action u.entry ∙ ap (λ (r : Side). take (first_changed u.action (u.place - 1)) r.places) at)

@@ -6,7 +6,7 @@ use lib.Bits.{bit_xor}
 use Rattle.digits.specs.Digits.{digits_of, is_digit, all_digits, value}
 use Rattle.digits.specs.declared.Number.TheVariants.{Is, No}
 use Rattle.digits.proofs.Steps.{rest, fit, one, other}
-use Rattle.digits.proofs.Words.{Digits, join, above, none_above, all_digits_lem, number, number_is, is_digit_lem, is-worth}
+use Rattle.digits.proofs.Words.{Digits, join, above, none_above, all_digits_lem, number, number_is, is_digit_lem, is_worth}
 
 -- ---- bytes that are no digits
 pub stop : (v : ℕ) (bs : List ℕ) → all_digits bs ≡ false → rest v bs ≡ No
@@ -28,8 +28,8 @@ module _ (a b c d : ℕ) where
       let e : rest 0 four ≡ Is (value 0 four) = simp (le-leb 48 (a + 48) (omega arith), le-leb (a + 48) 57 (omega (arith, z.first)), le-leb 48 (b + 48) (omega arith), le-leb (b + 48) 57 (omega (arith, z.second)), le-leb 48 (c + 48) (omega arith), le-leb (c + 48) 57 (omega (arith, z.third)), le-leb 48 (d + 48) (omega arith), le-leb (d + 48) 57 (omega (arith, z.last))) in
       e ∙ ap Is (omega arith)
 
-  four-no : (Digits a b c d → ⊥) → rest 0 four ≡ No
-  four-no n = stop 0 four (go (leb a 9) (leb b 9) (leb c 9) (leb d 9) refl refl refl refl)
+  four_no : (Digits a b c d → ⊥) → rest 0 four ≡ No
+  four_no n = stop 0 four (go (leb a 9) (leb b 9) (leb c 9) (leb d 9) refl refl refl refl)
     where
       go : (p q r s : Bool) → leb a 9 ≡ p → leb b 9 ≡ q → leb c 9 ≡ r → leb d 9 ≡ s → all_digits four ≡ false
       go false q r s e f g h = here a ((b + 48) ∷ (c + 48) ∷ (d + 48) ∷ []) (leb-false a 9 e)
@@ -50,8 +50,8 @@ module _ (w : ℕ) (h : w < 2 ^ 32) where
       let z = all_digits_lem (w % 256) (w / 256 % 256) (w / 65536 % 256) (w / 16777216) (omega arith) (omega arith) (omega arith) (omega arith) (ap above (sym joined) ∙ e) in
       fit (bytes w) 4 (omega arith) (omega arith) (omega arith) ∙ four_is (w % 256) (w / 256 % 256) (w / 65536 % 256) (w / 16777216) z ∙ ap Is (sym (ap number joined ∙ number_is _ _ _ _ z))
 
-  pub writes-none : (above w ≡ 0 → ⊥) → digits_of 4 (bytes w) ≡ No
-  writes-none n = fit (bytes w) 4 (omega arith) (omega arith) (omega arith) ∙ four-no (w % 256) (w / 256 % 256) (w / 65536 % 256) (w / 16777216) (λ z. n (ap above joined ∙ none_above _ _ _ _ z))
+  pub writes_none : (above w ≡ 0 → ⊥) → digits_of 4 (bytes w) ≡ No
+  writes_none n = fit (bytes w) 4 (omega arith) (omega arith) (omega arith) ∙ four_no (w % 256) (w / 256 % 256) (w / 65536 % 256) (w / 16777216) (λ z. n (ap above joined ∙ none_above _ _ _ _ z))
 
 -- ---- bytes that are known by what they are worth
 abbrev pub again : ℕ → ℕ
@@ -66,7 +66,7 @@ same v (b ∷ bs) = go (same (v * 10 + bit_xor b 48) bs) (leb (bit_xor b 48) 9) 
     go left true e =
         let h = leb-true (bit_xor b 48) 9 e in
         let d = is_digit_lem b h in
-        let k : again b ≡ b = omega (arith, is-worth b d.0 d.1, d.0) in
+        let k : again b ≡ b = omega (arith, is_worth b d.0 d.1, d.0) in
         ap (λ (x : ℕ). rest v (x ∷ map again bs)) k ∙ one (b ∷ map again bs) 0 v (bit_xor b 48) refl (omega arith) h ∙ left ∙ sym (one (b ∷ bs) 0 v (bit_xor b 48) refl (omega arith) h)
     go left false e =
         let h = leb-false (bit_xor b 48) 9 e in
@@ -88,22 +88,22 @@ front (a ∷ b ∷ []) h = absurd (omega arith)
 front (a ∷ b ∷ c ∷ []) h = absurd (omega arith)
 front (a ∷ b ∷ c ∷ d ∷ t) h = refl
 
-pub four-at : (s : List ℕ) (i : ℕ) → i + 4 ≤ length s → take 4 (drop i s) ≡ get_or s i 0 ∷ get_or s (i + 1) 0 ∷ get_or s (i + 2) 0 ∷ get_or s (i + 3) 0 ∷ []
-four-at s i l = front (drop i s) (omega (arith, length-drop i s)) ∙ rw (get_or-drop i s 0 0, get_or-drop i s 1 0, get_or-drop i s 2 0, get_or-drop i s 3 0, add-zero)
+pub four_at : (s : List ℕ) (i : ℕ) → i + 4 ≤ length s → take 4 (drop i s) ≡ get_or s i 0 ∷ get_or s (i + 1) 0 ∷ get_or s (i + 2) 0 ∷ get_or s (i + 3) 0 ∷ []
+four_at s i l = front (drop i s) (omega (arith, length-drop i s)) ∙ rw (get_or-drop i s 0 0, get_or-drop i s 1 0, get_or-drop i s 2 0, get_or-drop i s 3 0, add-zero)
 
-pub four-known : (w : ℕ) (s : List ℕ) (i : ℕ) → i + 4 ≤ length s → w % 256 ≡ bit_xor (get_or s i 0) 48 → w / 256 % 256 ≡ bit_xor (get_or s (i + 1) 0) 48 → w / 65536 % 256 ≡ bit_xor (get_or s (i + 2) 0) 48 → w / 16777216 ≡ bit_xor (get_or s (i + 3) 0) 48 → bytes w ≡ map again (take 4 (drop i s))
-four-known w s i l e f g h = known w (get_or s i 0) (get_or s (i + 1) 0) (get_or s (i + 2) 0) (get_or s (i + 3) 0) e f g h ∙ ap (map again) (sym (four-at s i l))
+pub four_known : (w : ℕ) (s : List ℕ) (i : ℕ) → i + 4 ≤ length s → w % 256 ≡ bit_xor (get_or s i 0) 48 → w / 256 % 256 ≡ bit_xor (get_or s (i + 1) 0) 48 → w / 65536 % 256 ≡ bit_xor (get_or s (i + 2) 0) 48 → w / 16777216 ≡ bit_xor (get_or s (i + 3) 0) 48 → bytes w ≡ map again (take 4 (drop i s))
+four_known w s i l e f g h = known w (get_or s i 0) (get_or s (i + 1) 0) (get_or s (i + 2) 0) (get_or s (i + 3) 0) e f g h ∙ ap (map again) (sym (four_at s i l))
 
 -- the first of four bytes, with zeros before them: the others go
 module _ (w : ℕ) (u : w < 2 ^ 32) where
-  pub first-known : (s : List ℕ) → 4 ≤ length s → w % 256 ≡ bit_xor (get_or s 0 0) 48 → w / 256 % 256 ≡ bit_xor (get_or s 1 0) 48 → w / 65536 % 256 ≡ bit_xor (get_or s 2 0) 48 → w / 16777216 ≡ bit_xor (get_or s 3 0) 48 → (k : ℕ) → k ≤ 4 → bytes (w * 2 ^ (32 - 8 * k) % 2 ^ 64 % 2 ^ 32) ≡ map again (replicate (4 - k) 48 ++ take k s)
-  first-known [] l e f g h k j = absurd (omega arith)
-  first-known (a ∷ []) l e f g h k j = absurd (omega arith)
-  first-known (a ∷ b ∷ []) l e f g h k j = absurd (omega arith)
-  first-known (a ∷ b ∷ c ∷ []) l e f g h k j = absurd (omega arith)
-  first-known (a ∷ b ∷ c ∷ d ∷ t) l e f g h zero j = known (w * 2 ^ 32 % 2 ^ 64 % 2 ^ 32) 48 48 48 48 (omega arith) (omega arith) (omega arith) (omega arith)
-  first-known (a ∷ b ∷ c ∷ d ∷ t) l e f g h (suc zero) j = known (w * 16777216 % 2 ^ 64 % 2 ^ 32) 48 48 48 a (omega arith) (omega arith) (omega arith) (omega arith)
-  first-known (a ∷ b ∷ c ∷ d ∷ t) l e f g h (suc (suc zero)) j = known (w * 65536 % 2 ^ 64 % 2 ^ 32) 48 48 a b (omega arith) (omega arith) (omega arith) (omega arith)
-  first-known (a ∷ b ∷ c ∷ d ∷ t) l e f g h (suc (suc (suc zero))) j = known (w * 256 % 2 ^ 64 % 2 ^ 32) 48 a b c (omega arith) (omega arith) (omega arith) (omega arith)
-  first-known (a ∷ b ∷ c ∷ d ∷ t) l e f g h (suc (suc (suc (suc zero)))) j = known (w * 1 % 2 ^ 64 % 2 ^ 32) a b c d (omega arith) (omega arith) (omega arith) (omega arith)
-  first-known (a ∷ b ∷ c ∷ d ∷ t) l e f g h (suc (suc (suc (suc (suc k))))) j = absurd (omega arith)
+  pub first_known : (s : List ℕ) → 4 ≤ length s → w % 256 ≡ bit_xor (get_or s 0 0) 48 → w / 256 % 256 ≡ bit_xor (get_or s 1 0) 48 → w / 65536 % 256 ≡ bit_xor (get_or s 2 0) 48 → w / 16777216 ≡ bit_xor (get_or s 3 0) 48 → (k : ℕ) → k ≤ 4 → bytes (w * 2 ^ (32 - 8 * k) % 2 ^ 64 % 2 ^ 32) ≡ map again (replicate (4 - k) 48 ++ take k s)
+  first_known [] l e f g h k j = absurd (omega arith)
+  first_known (a ∷ []) l e f g h k j = absurd (omega arith)
+  first_known (a ∷ b ∷ []) l e f g h k j = absurd (omega arith)
+  first_known (a ∷ b ∷ c ∷ []) l e f g h k j = absurd (omega arith)
+  first_known (a ∷ b ∷ c ∷ d ∷ t) l e f g h zero j = known (w * 2 ^ 32 % 2 ^ 64 % 2 ^ 32) 48 48 48 48 (omega arith) (omega arith) (omega arith) (omega arith)
+  first_known (a ∷ b ∷ c ∷ d ∷ t) l e f g h (suc zero) j = known (w * 16777216 % 2 ^ 64 % 2 ^ 32) 48 48 48 a (omega arith) (omega arith) (omega arith) (omega arith)
+  first_known (a ∷ b ∷ c ∷ d ∷ t) l e f g h (suc (suc zero)) j = known (w * 65536 % 2 ^ 64 % 2 ^ 32) 48 48 a b (omega arith) (omega arith) (omega arith) (omega arith)
+  first_known (a ∷ b ∷ c ∷ d ∷ t) l e f g h (suc (suc (suc zero))) j = known (w * 256 % 2 ^ 64 % 2 ^ 32) 48 a b c (omega arith) (omega arith) (omega arith) (omega arith)
+  first_known (a ∷ b ∷ c ∷ d ∷ t) l e f g h (suc (suc (suc (suc zero)))) j = known (w * 1 % 2 ^ 64 % 2 ^ 32) a b c d (omega arith) (omega arith) (omega arith) (omega arith)
+  first_known (a ∷ b ∷ c ∷ d ∷ t) l e f g h (suc (suc (suc (suc (suc k))))) j = absurd (omega arith)

@@ -7,8 +7,8 @@ abbrev pub plain : ℕ → Number
 plain r = cond (eqb r 18446744073709551615) No (Is r)
 
 module _ (x : Number) (r : ℕ) (e : x ≡ plain r) where
-  pub is-no : r ≡ 18446744073709551615 → x ≡ No
-  is-no h = e ∙ ap (λ (t : Bool). cond t No (Is r)) (eq-eqb r 18446744073709551615 h)
+  pub is_no : r ≡ 18446744073709551615 → x ≡ No
+  is_no h = e ∙ ap (λ (t : Bool). cond t No (Is r)) (eq-eqb r 18446744073709551615 h)
 
   pub is_number : (r ≡ 18446744073709551615 → ⊥) → x ≡ Is r
   is_number h = e ∙ ap (λ (t : Bool). cond t No (Is r)) (ne_eqb r 18446744073709551615 h)

@@ -17,11 +17,11 @@ within_in lo hi {n} (Is v) e = go (leb lo v) (leb v hi) refl refl e
     go true false p q f = let z : ◌≡◌ {A = ℕ} 0 1 = cc in absurd (omega arith)
     go false b p q f = let z : ◌≡◌ {A = ℕ} 0 1 = cc in absurd (omega arith)
 
-pub ranged-in : (w lo hi : ℕ) (bs : List ℕ) {n : ℕ} → ranged_of w lo hi bs ≡ Is n → In lo hi n
+pub ranged_in : (w lo hi : ℕ) (bs : List ℕ) {n : ℕ} → ranged_of w lo hi bs ≡ Is n → In lo hi n
 unfolding ranged_of
-ranged-in w lo hi bs e = within_in lo hi (whole_of w bs) e
+ranged_in w lo hi bs e = within_in lo hi (whole_of w bs) e
 
 -- a whole number that lies in the range is read
-pub ranged-back : (w lo hi : ℕ) (bs : List ℕ) {n : ℕ} → whole_of w bs ≡ Is n → lo ≤ n → n ≤ hi → ranged_of w lo hi bs ≡ Is n
+pub ranged_back : (w lo hi : ℕ) (bs : List ℕ) {n : ℕ} → whole_of w bs ≡ Is n → lo ≤ n → n ≤ hi → ranged_of w lo hi bs ≡ Is n
 unfolding ranged_of
-ranged-back w lo hi bs {n} e l h = rw e (simp (le-leb lo n l, le-leb n hi h))
+ranged_back w lo hi bs {n} e l h = rw e (simp (le-leb lo n l, le-leb n hi h))

@@ -9,8 +9,8 @@ module _ (s : List ℕ) (l : 1 ≤ length s) (m : length s ≤ 3) (a : ℕ) (e :
   all : digits_of 18 s ≡ rest 0 s
   all = begun s 18 l (omega arith)
 
-  pub no-first : 9 < a → digits_of 18 s ≡ No
-  no-first h = all ∙ other s 0 0 a e l h
+  pub no_first : 9 < a → digits_of 18 s ≡ No
+  no_first h = all ∙ other s 0 0 a e l h
 
   module _ (h : a ≤ 9) where
     first : digits_of 18 s ≡ rest a (drop 1 s)
@@ -27,12 +27,12 @@ module _ (s : List ℕ) (l : 1 ≤ length s) (m : length s ≤ 3) (a : ℕ) (e :
         second : digits_of 18 s ≡ rest (a * 10 + b) (drop 2 s)
         second = first ∙ one s 1 a b f (omega arith) i
 
-        pub is-two : length s ≡ 2 → digits_of 18 s ≡ Is (a * 10 + b)
-        is-two k = second ∙ done s 2 (a * 10 + b) (omega arith)
+        pub is_two : length s ≡ 2 → digits_of 18 s ≡ Is (a * 10 + b)
+        is_two k = second ∙ done s 2 (a * 10 + b) (omega arith)
 
         module _ (o : length s ≡ 2 → ⊥) (c : ℕ) (g : c ≡ bit_xor (get_or s 2 0) 48) where
           pub no_third : 9 < c → digits_of 18 s ≡ No
           no_third j = second ∙ other s 2 (a * 10 + b) c g (omega arith) j
 
-          pub is-three : c ≤ 9 → digits_of 18 s ≡ Is ((a * 10 + b) * 10 + c)
-          is-three j = second ∙ one s 2 (a * 10 + b) c g (omega arith) j ∙ done s 3 ((a * 10 + b) * 10 + c) m
+          pub is_three : c ≤ 9 → digits_of 18 s ≡ Is ((a * 10 + b) * 10 + c)
+          is_three j = second ∙ one s 2 (a * 10 + b) c g (omega arith) j ∙ done s 3 ((a * 10 + b) * 10 + c) m

@@ -4,7 +4,7 @@ use mathlib.Core.Bool.{and-false}
 use lib.Bits.{bit_xor}
 use borrow.Author.Tests.{lt-leb}
 use Rattle.digits.specs.Digits.{digits_of, whole_of, all_digits, value}
-use Rattle.digits.proofs.Words.{is_digit_lem, is-worth}
+use Rattle.digits.proofs.Words.{is_digit_lem, is_worth}
 use Rattle.digits.specs.declared.Number.{Number}
 use Rattle.digits.specs.declared.Number.TheVariants.{Is, No}
 
@@ -77,7 +77,7 @@ module _ (s : List ℕ) (i v : ℕ) where
     pub one : x ≤ 9 → rest v (drop i s) ≡ rest (v * 10 + x) (drop (i + 1) s)
     one h =
         let d = is_digit_lem byte (omega arith) in
-        more l d.0 d.1 ∙ ap (λ (w : ℕ). rest (v * 10 + w) (drop (i + 1) s)) (sym (e ∙ is-worth byte d.0 d.1))
+        more l d.0 d.1 ∙ ap (λ (w : ℕ). rest (v * 10 + w) (drop (i + 1) s)) (sym (e ∙ is_worth byte d.0 d.1))
 
     -- and no other is
     pub other : 9 < x → rest v (drop i s) ≡ No
@@ -87,7 +87,7 @@ module _ (s : List ℕ) (i v : ℕ) where
         go false b p q = low l (leb-false 48 byte p)
         go true false p q = high l (leb-false byte 57 q)
         go true true p q =
-            let w = is-worth byte (leb-true 48 byte p) (leb-true byte 57 q) in
+            let w = is_worth byte (leb-true 48 byte p) (leb-true byte 57 q) in
             let m = leb-true byte 57 q in
             absurd (omega arith)
 

@@ -19,8 +19,8 @@ is_digit_lem b h =
     (omega arith, omega (arith, halves b))
 
 -- what a digit is worth
-pub is-worth : (b : ℕ) → 48 ≤ b → b ≤ 57 → bit_xor b 48 ≡ b - 48
-is-worth b l h =
+pub is_worth : (b : ℕ) → 48 ≤ b → b ≤ 57 → bit_xor b 48 ≡ b - 48
+is_worth b l h =
     let x : b / 16 ≡ 3 = omega arith in
     let y : bit_xor (b / 16) 3 ≡ 0 = ap (λ (a : ℕ). bit_xor a 3) x ∙ xor_self 3 in
     omega (arith, halves b)
@@ -58,8 +58,8 @@ module _ (a b c d : ℕ) (la : a < 256) (lb : b < 256) (lc : c < 256) (ld : d < 
   highs = bytewise bit_and and_block a b c d 240 240 240 240 la lb lc (omega arith) (omega arith) (omega arith) ∙ rw (high_half la, high_half lb, high_half lc, high_half ld)
 
 -- no part of a join of 0 has a bit
-or-none : (p q : ℕ) → bit_or p q ≡ 0 → (p ≡ 0) × (q ≡ 0)
-or-none p q h = (omega (arith, or_add_and p q, and_le_l p q, and_le_r p q), omega (arith, or_add_and p q, and_le_l p q, and_le_r p q))
+or_none : (p q : ℕ) → bit_or p q ≡ 0 → (p ≡ 0) × (q ≡ 0)
+or_none p q h = (omega (arith, or_add_and p q, and_le_l p q, and_le_r p q), omega (arith, or_add_and p q, and_le_l p q, and_le_r p q))
 
 -- the high halves of a word's bytes, and those with six added to each
 abbrev pub above : ℕ → ℕ
@@ -96,7 +96,7 @@ module _ (a b c d : ℕ) where
   -- and only they
   pub all_digits_lem : a < 256 → b < 256 → c < 256 → d < 256 → above (join a b c d) ≡ 0 → Digits a b c d
   all_digits_lem la lb lc ld h =
-      let z = or-none (bit_and (join a b c d) 0xf0f0_f0f0) (bit_and (join a b c d + 0x0606_0606) 0xf0f0_f0f0) h in
+      let z = or_none (bit_and (join a b c d) 0xf0f0_f0f0) (bit_and (join a b c d + 0x0606_0606) 0xf0f0_f0f0) h in
       let x = highs a b c d la lb lc ld in
       let fa : a < 16 = omega (arith, x, z.0) in
       let fb : b < 16 = omega (arith, x, z.0) in
@@ -147,8 +147,8 @@ module _ (a b c d : ℕ) (la : a < 256) (lb : b < 256) (lc : c < 256) (ld : d < 
       (omega (arith, e, la', lb', lc', ld'), omega (arith, e, la'), omega (arith, e, la', lb'), omega (arith, e, la', lb', lc'), omega (arith, e, la', lb', lc'))
 
 -- ---- two words at once, the second in the upper half
-abbrev pub above-both : ℕ → ℕ
-above-both w = bit_or (bit_and w 0xf0f0_f0f0_f0f0_f0f0) (bit_and ((w + 0x0606_0606_0606_0606) % 2 ^ 64) 0xf0f0_f0f0_f0f0_f0f0)
+abbrev pub above_both : ℕ → ℕ
+above_both w = bit_or (bit_and w 0xf0f0_f0f0_f0f0_f0f0) (bit_and ((w + 0x0606_0606_0606_0606) % 2 ^ 64) 0xf0f0_f0f0_f0f0_f0f0)
 
 -- the upper bits of two words
 uppers : (a b : ℕ) → a < 2 ^ 32 → bit_and (a + b * 2 ^ 32) 0xf0f0_f0f0_f0f0_f0f0 ≡ bit_and b 0xf0f0_f0f0 * 2 ^ 32 + bit_and a 0xf0f0_f0f0
@@ -157,8 +157,8 @@ uppers a b l =
     ap (λ (u : ℕ). bit_and u 0xf0f0_f0f0_f0f0_f0f0) e ∙ and_block 32 b 0xf0f0_f0f0 a 0xf0f0_f0f0 l (omega arith)
 
 -- a word without upper bits has room for a six in each byte
-low-bytes : (a b c d : ℕ) → a < 256 → b < 256 → c < 256 → d < 256 → bit_and (join a b c d) 0xf0f0_f0f0 ≡ 0 → join a b c d ≤ 0x0f0f_0f0f
-low-bytes a b c d la lb lc ld h =
+low_bytes : (a b c d : ℕ) → a < 256 → b < 256 → c < 256 → d < 256 → bit_and (join a b c d) 0xf0f0_f0f0 ≡ 0 → join a b c d ≤ 0x0f0f_0f0f
+low_bytes a b c d la lb lc ld h =
     let x = highs a b c d la lb lc ld in
     let p : a < 16 = omega (arith, x, h) in
     let q : b < 16 = omega (arith, x, h) in
@@ -169,7 +169,7 @@ low-bytes a b c d la lb lc ld h =
 low : (a : ℕ) → a < 2 ^ 32 → bit_and a 0xf0f0_f0f0 ≡ 0 → a ≤ 0x0f0f_0f0f
 low a l h =
     let e : a ≡ join (a % 256) (a / 256 % 256) (a / 65536 % 256) (a / 16777216) = omega arith in
-    subst (λ (u : ℕ). u ≤ 0x0f0f_0f0f) (sym e) (low-bytes (a % 256) (a / 256 % 256) (a / 65536 % 256) (a / 16777216) (omega arith) (omega arith) (omega arith) (omega arith) (sym (ap (λ (u : ℕ). bit_and u 0xf0f0_f0f0) e) ∙ h))
+    subst (λ (u : ℕ). u ≤ 0x0f0f_0f0f) (sym e) (low_bytes (a % 256) (a / 256 % 256) (a / 65536 % 256) (a / 16777216) (omega arith) (omega arith) (omega arith) (omega arith) (sym (ap (λ (u : ℕ). bit_and u 0xf0f0_f0f0) e) ∙ h))
 
 module _ (a b : ℕ) (la : a < 2 ^ 32) (lb : b < 2 ^ 32) where
   sixes : a ≤ 0x0f0f_0f0f → b ≤ 0x0f0f_0f0f → bit_and ((a + b * 2 ^ 32 + 0x0606_0606_0606_0606) % 2 ^ 64) 0xf0f0_f0f0_f0f0_f0f0 ≡ bit_and (b + 0x0606_0606) 0xf0f0_f0f0 * 2 ^ 32 + bit_and (a + 0x0606_0606) 0xf0f0_f0f0
@@ -178,18 +178,18 @@ module _ (a b : ℕ) (la : a < 2 ^ 32) (lb : b < 2 ^ 32) where
       ap (λ (u : ℕ). bit_and u 0xf0f0_f0f0_f0f0_f0f0) e ∙ uppers (a + 0x0606_0606) (b + 0x0606_0606) (omega arith)
 
   -- both words pass where each does
-  pub none_both : above a ≡ 0 → above b ≡ 0 → above-both (a + b * 2 ^ 32) ≡ 0
+  pub none_both : above a ≡ 0 → above b ≡ 0 → above_both (a + b * 2 ^ 32) ≡ 0
   none_both f g =
-      let x = or-none (bit_and a 0xf0f0_f0f0) (bit_and (a + 0x0606_0606) 0xf0f0_f0f0) f in
-      let y = or-none (bit_and b 0xf0f0_f0f0) (bit_and (b + 0x0606_0606) 0xf0f0_f0f0) g in
+      let x = or_none (bit_and a 0xf0f0_f0f0) (bit_and (a + 0x0606_0606) 0xf0f0_f0f0) f in
+      let y = or_none (bit_and b 0xf0f0_f0f0) (bit_and (b + 0x0606_0606) 0xf0f0_f0f0) g in
       let p : bit_and (a + b * 2 ^ 32) 0xf0f0_f0f0_f0f0_f0f0 ≡ 0 = omega (arith, uppers a b la, x.0, y.0) in
       let q : bit_and ((a + b * 2 ^ 32 + 0x0606_0606_0606_0606) % 2 ^ 64) 0xf0f0_f0f0_f0f0_f0f0 ≡ 0 = omega (arith, sixes (low a la x.0) (low b lb y.0), x.1, y.1) in
       ap (λ (u : ℕ). bit_or u (bit_and ((a + b * 2 ^ 32 + 0x0606_0606_0606_0606) % 2 ^ 64) 0xf0f0_f0f0_f0f0_f0f0)) p ∙ or_zero_l _ ∙ q
 
   -- and only there
-  pub each_none : above-both (a + b * 2 ^ 32) ≡ 0 → (above a ≡ 0) × (above b ≡ 0)
+  pub each_none : above_both (a + b * 2 ^ 32) ≡ 0 → (above a ≡ 0) × (above b ≡ 0)
   each_none h =
-      let z = or-none (bit_and (a + b * 2 ^ 32) 0xf0f0_f0f0_f0f0_f0f0) (bit_and ((a + b * 2 ^ 32 + 0x0606_0606_0606_0606) % 2 ^ 64) 0xf0f0_f0f0_f0f0_f0f0) h in
+      let z = or_none (bit_and (a + b * 2 ^ 32) 0xf0f0_f0f0_f0f0_f0f0) (bit_and ((a + b * 2 ^ 32 + 0x0606_0606_0606_0606) % 2 ^ 64) 0xf0f0_f0f0_f0f0_f0f0) h in
       let p : bit_and a 0xf0f0_f0f0 ≡ 0 = omega (arith, uppers a b la, z.0) in
       let q : bit_and b 0xf0f0_f0f0 ≡ 0 = omega (arith, uppers a b la, z.0) in
       let k = sixes (low a la p) (low b lb q) in

@@ -12,37 +12,37 @@ use Rattle.entries.specs.declared.Said.{Said}
 
 module _ (v : Values) where
   -- without 48: 22 stands, or 207 does, or neither
-  abbrev all-by : Bool → Bool → Said
-  all-by a b = said (need (a && b) (empties 0 empty_of_all))
+  abbrev all_by : Bool → Bool → Said
+  all_by a b = said (need (a && b) (empties 0 empty_of_all))
 
-  pub has-source : absent 22 v ≡ false → said none ≡ said (empty_all v)
+  pub has_source : absent 22 v ≡ false → said none ≡ said (empty_all v)
   unfolding empty_all
-  has-source e = sym (ap (λ (a : Bool). all-by a (absent 207 v)) e)
+  has_source e = sym (ap (λ (a : Bool). all_by a (absent 207 v)) e)
 
-  pub has-market : absent 22 v ≡ true → absent 207 v ≡ false → said none ≡ said (empty_all v)
+  pub has_market : absent 22 v ≡ true → absent 207 v ≡ false → said none ≡ said (empty_all v)
   unfolding empty_all
-  has-market e f = sym (ap (λ (a : Bool). all-by a (absent 207 v)) e ∙ ap (all-by true) f)
+  has_market e f = sym (ap (λ (a : Bool). all_by a (absent 207 v)) e ∙ ap (all_by true) f)
 
-  pub has-neither : absent 22 v ≡ true → absent 207 v ≡ true → said (empties 0 empty_of_all) ≡ said (empty_all v)
+  pub has_neither : absent 22 v ≡ true → absent 207 v ≡ true → said (empties 0 empty_of_all) ≡ said (empty_all v)
   unfolding empty_all
-  has-neither e f = sym (ap (λ (a : Bool). all-by a (absent 207 v)) e ∙ ap (all-by true) f)
+  has_neither e f = sym (ap (λ (a : Bool). all_by a (absent 207 v)) e ∙ ap (all_by true) f)
 
   -- with 48 or without
   abbrev by_name : Number → Said
   by_name id = said (number id >>= λ id. empties id 2)
 
-  abbrev book-by : Bool → Said
-  book-by a = said (cond a (empty_all v) (number (instrument_of v) >>= λ id. empties id 2))
+  abbrev book_by : Bool → Said
+  book_by a = said (cond a (empty_all v) (number (instrument_of v) >>= λ id. empties id 2))
 
-  pub has-no-name : absent 48 v ≡ true → said (empty_all v) ≡ said (empty_book v)
+  pub has_no_name : absent 48 v ≡ true → said (empty_all v) ≡ said (empty_book v)
   unfolding empty_book
-  has-no-name e = sym (ap book-by e)
+  has_no_name e = sym (ap book_by e)
 
   module _ (e : absent 48 v ≡ false) where
-    pub has-bad-name : instrument_of v ≡ No → said none ≡ said (empty_book v)
+    pub has_bad_name : instrument_of v ≡ No → said none ≡ said (empty_book v)
     unfolding empty_book
-    has-bad-name n = sym (ap book-by e ∙ ap by_name n)
+    has_bad_name n = sym (ap book_by e ∙ ap by_name n)
 
-    pub has-name : (id : ℕ) → instrument_of v ≡ Is id → said (empties id 2) ≡ said (empty_book v)
+    pub has_name : (id : ℕ) → instrument_of v ≡ Is id → said (empties id 2) ≡ said (empty_book v)
     unfolding empty_book
-    has-name id n = sym (ap book-by e ∙ ap by_name n)
+    has_name id n = sym (ap book_by e ∙ ap by_name n)

@@ -15,15 +15,15 @@ use Rattle.frame.specs.ByPlace.{outline_of}
 use Rattle.chain.specs.Places.{part, is_some, left}
 use Rattle.frame.specs.declared.Framed.{Framed}
 use Rattle.frame.proofs.Messages.{framing, outline, outlined}
-use Rattle.chain.proofs.Walk.{left-whole}
+use Rattle.chain.proofs.Walk.{left_whole}
 use Rattle.tags.proofs.Unbroken.{unbroken}
 use Rattle.lead.specs.Messages.{or_bad_fields, typed_as}
 use Rattle.fields.specs.Messages.{message_in}
 use Rattle.fields.specs.Messages.{refusal_of}
 use Rattle.group.specs.Reads.{Spared, Reads}
-use Rattle.group.proofs.Reading.{refused-reads, reads_as}
-use Rattle.lead.proofs.Bodies.{refused-by}
-use Rattle.fields.proofs.Unbroken.{is_read, typed-well}
+use Rattle.group.proofs.Reading.{refused_reads, reads_as}
+use Rattle.lead.proofs.Bodies.{refused_by_lem}
+use Rattle.fields.proofs.Unbroken.{is_read, typed_well}
 
 -- ---- what a verdict says of the body
 -- a message was read
@@ -45,8 +45,8 @@ none_read = refl
 
 -- what was read of fields
 module _ (depth kind : ℕ) (fs : List Field) {r : Reading} {xs ys : List ℕ} (h : Reads (told (or_bad_fields (typed_as depth kind fs))) r xs ys) where
-  verdict-is : (o : Option Message) → typed_as depth kind fs ≡ o → was_read r.verdict ≡ was_read (told (or_bad_fields o)).reading.verdict
-  verdict-is o e =
+  verdict_is : (o : Option Message) → typed_as depth kind fs ≡ o → was_read r.verdict ≡ was_read (told (or_bad_fields o)).reading.verdict
+  verdict_is o e =
       ap (λ (r : Reading). was_read r.verdict) h.reading
       ∙ ap (λ (o : Option Message). was_read (told (or_bad_fields o)).reading.verdict) e
 
@@ -55,7 +55,7 @@ module _ (depth kind : ℕ) (fs : List Field) {r : Reading} {xs ys : List ℕ} (
   said q = go (typed_as depth kind fs) refl
     where
       go : (o : Option Message) → typed_as depth kind fs ≡ o → (m : Message) × (o ≡ some m)
-      go none e = absurd (false≢true (sym (verdict-is none e ∙ none_read) ∙ q))
+      go none e = absurd (false≢true (sym (verdict_is none e ∙ none_read) ∙ q))
       go (some m) e = (m, refl)
 
   -- they say none
@@ -64,7 +64,7 @@ module _ (depth kind : ℕ) (fs : List Field) {r : Reading} {xs ys : List ℕ} (
     where
       go : (o : Option Message) → typed_as depth kind fs ≡ o → o ≡ none
       go none e = refl
-      go (some m) e = absurd (true≢false (sym (verdict-is (some m) e ∙ some_read m (typed-well fs depth kind e).read) ∙ q))
+      go (some m) e = absurd (true≢false (sym (verdict_is (some m) e ∙ some_read m (typed_well fs depth kind e).read) ∙ q))
 
 -- ---- the message
 module _ (depth : ℕ) (s : List ℕ) where
@@ -79,7 +79,7 @@ module _ (depth : ℕ) (s : List ℕ) where
   -- with a good frame that is what the message says
   body_is : {kind from : ℕ} → frame_of s ≡ Framed.Is kind from → told (or_bad_fields (body_as kind from)) ≡ told (message_in depth s)
   unfolding message_in
-  body_is {kind} {from} e = rw (e, left-whole (inner from) 0 (framing s e).body)
+  body_is {kind} {from} e = rw (e, left_whole (inner from) 0 (framing s e).body)
 
   -- without, or where it says nothing, the message is refused
   refusal_is : ((kind from : ℕ) → frame_of s ≡ Framed.Is kind from → body_as kind from ≡ none)
@@ -88,21 +88,21 @@ module _ (depth : ℕ) (s : List ℕ) where
   refusal_is h = go (frame_of s) refl
     where
       go : (x : Framed) → frame_of s ≡ x → told (refused (refusal_of x)) ≡ told (message_in depth s)
-      go (Framed.Is kind from) e = refused-by (body_as kind from) (h kind from e) ∙ body_is e
+      go (Framed.Is kind from) e = refused_by_lem (body_as kind from) (h kind from e) ∙ body_is e
       go Framed.BadFrame e = rw e
       go Framed.BadSum e = rw e
       go Framed.BadType e = rw e
 
   module _ {r : Reading} {xs ys : List ℕ} (q : r ≡ (told (refused (refusal_of (frame_of s)))).reading) where
     -- no outline
-    pub no-outline : ((kind from : ℕ) → outline_of s ≡ Framed.Is kind from → ⊥) → Spared xs ys
+    pub no_outline : ((kind from : ℕ) → outline_of s ≡ Framed.Is kind from → ⊥) → Spared xs ys
         → Reads (told (message_in depth s)) r xs ys
-    no-outline h l = reads_as (refused-reads (refusal_of (frame_of s)) xs ys r q l) (refusal_is (λ k f e. absurd (h k f (outlined s k f e))))
+    no_outline h l = reads_as (refused_reads (refusal_of (frame_of s)) xs ys r q l) (refusal_is (λ k f e. absurd (h k f (outlined s k f e))))
 
     -- an outline, and a body that is refused
     pub body_refused : {kind from : ℕ} {p : Reading} → outline_of s ≡ Framed.Is kind from
         → Reads (told (or_bad_fields (body_as kind from))) p xs ys → was_read p.verdict ≡ false → Reads (told (message_in depth s)) r xs ys
-    body_refused {kind} {from} o h v = reads_as (refused-reads (refusal_of (frame_of s)) xs ys r q h.run) (refusal_is none_of)
+    body_refused {kind} {from} o h v = reads_as (refused_reads (refusal_of (frame_of s)) xs ys r q h.run) (refusal_is none_of)
       where
         none_of : (k f : ℕ) → frame_of s ≡ Framed.Is k f → body_as k f ≡ none
         none_of k f e =
@@ -112,9 +112,9 @@ module _ (depth : ℕ) (s : List ℕ) where
             rw (← a, ← b) (unsaid depth kind (left (inner from) 0) h v)
 
   -- an outline, and a body that is read: its fields are a chain
-  pub body-read : {kind from : ℕ} {r : Reading} {xs ys : List ℕ} → outline_of s ≡ Framed.Is kind from
+  pub body_read : {kind from : ℕ} {r : Reading} {xs ys : List ℕ} → outline_of s ≡ Framed.Is kind from
       → Reads (told (or_bad_fields (body_as kind from))) r xs ys → was_read r.verdict ≡ true → Reads (told (message_in depth s)) r xs ys
-  body-read {kind} {from} o h v =
+  body_read {kind} {from} o h v =
       let fs = left (inner from) 0 in
-      let well = typed-well fs depth kind (said depth kind fs h v).1 in
+      let well = typed_well fs depth kind (said depth kind fs h v).1 in
       reads_as h (body_is ((outline s kind from o).frame (ap is_some (unbroken (inner from) 0 well.unbroken))))

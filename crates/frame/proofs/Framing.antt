@@ -12,33 +12,33 @@ use Rattle.chain.specs.Places.{part, is_some}
 use Rattle.frame.specs.ByPlace.{preamble, trailer_of, parts_of, judged, outline_of, frame_in}
 use Rattle.frame.specs.declared.Shape.{Shape}
 use Rattle.frame.specs.declared.Framed.{Framed}
-use Rattle.chain.proofs.Shortest.{read-digits, fixed_back, decimal-back}
+use Rattle.chain.proofs.Shortest.{read_digits, fixed_back, decimal_back}
 use Rattle.chain.proofs.Walk.{found}
-use Rattle.chain.proofs.Inverse.{Chain, fields-only}
+use Rattle.chain.proofs.Inverse.{Chain, fields_only}
 use Rattle.frame.proofs.Opened.{equal_is, opened, opened_inside, Shaped, shaped}
-use Rattle.frame.proofs.Well.{Well, whole_is, ten-bytes, length-ten, chain-well, parts-well, frame-well}
+use Rattle.frame.proofs.Well.{Well, whole_is, ten_bytes, length_ten, chain_well, parts_well, frame_well}
 
 -- three digits are what they say, in three digits
-pub three-digits : (z : List ℕ) (v : ℕ) → length z ≡ 3 → digits_of 3 z ≡ Number.Is v → (fixed 3 v ≡ z) × (v < 1000)
-three-digits z v l e =
-    let r = read-digits 3 z e in
+pub three_digits : (z : List ℕ) (v : ℕ) → length z ≡ 3 → digits_of 3 z ≡ Number.Is v → (fixed 3 v ≡ z) × (v < 1000)
+three_digits z v l e =
+    let r = read_digits 3 z e in
     let f : fixed 3 v ≡ z = rw (l, r.is) at (fixed_back z r.all) in
     (f, below 3 z e)
 
 -- a trailer that says v
-pub trailer-only : (t : List ℕ) (v : ℕ) → trailer_of t ≡ Number.Is v → (t ≡ field_bytes (field 10 (fixed 3 v))) × (v < 1000)
+pub trailer_only : (t : List ℕ) (v : ℕ) → trailer_of t ≡ Number.Is v → (t ≡ field_bytes (field 10 (fixed 3 v))) × (v < 1000)
 unfolding trailer_of
-trailer-only t v e = go (eqb (length t) 7) (equal (take 3 t) (49 ∷ 48 ∷ 61 ∷ [])) (eqb (get_or t 6 0) 1) refl refl refl e
+trailer_only t v e = go (eqb (length t) 7) (equal (take 3 t) (49 ∷ 48 ∷ 61 ∷ [])) (eqb (get_or t 6 0) 1) refl refl refl e
   where
     go : (a b c : Bool) → eqb (length t) 7 ≡ a → equal (take 3 t) (49 ∷ 48 ∷ 61 ∷ []) ≡ b → eqb (get_or t 6 0) 1 ≡ c
         → cond (a && (b && c)) (digits_of 3 (part 3 6 t)) Number.No ≡ Number.Is v → (t ≡ field_bytes (field 10 (fixed 3 v))) × (v < 1000)
     go true true true p q r h =
         let l : length t ≡ 7 = eqb-true (length t) 7 p in
         let w : length (part 3 6 t) ≡ 3 = rw (length-take, length-drop) (omega arith) in
-        let d = three-digits (part 3 6 t) v w h in
+        let d = three_digits (part 3 6 t) v w h in
         let g : drop 6 t ≡ 1 ∷ [] = drop-cons t 6 0 (omega arith) ∙ rw (eqb-true (get_or t 6 0) 1 r, drop_of_length-le t {i = 7} (omega arith)) in
         let m : drop 3 t ≡ part 3 6 t ++ drop 6 t = sym (take-append-drop 3 (drop 3 t)) ∙ rw (drop-drop 3 3 t) in
-        (sym (take-append-drop 3 t) ∙ rw (equal_is (take 3 t) (49 ∷ 48 ∷ 61 ∷ []) q, m, g, ten-bytes v, d.0), d.1)
+        (sym (take-append-drop 3 t) ∙ rw (equal_is (take 3 t) (49 ∷ 48 ∷ 61 ∷ []) q, m, g, ten_bytes v, d.0), d.1)
     go true true false p q r h = let z : ◌≡◌ {A = ℕ} 0 1 = cc in absurd (omega arith)
     go true false c p q r h = let z : ◌≡◌ {A = ℕ} 0 1 = cc in absurd (omega arith)
     go false b c p q r h = let z : ◌≡◌ {A = ℕ} 0 1 = cc in absurd (omega arith)
@@ -62,73 +62,73 @@ module _ (s : List ℕ) {from to v : ℕ} (x : Shaped s from to v) (chain : is_s
   abbrev c : List ℕ
   c = part from to s
 
-  chained-body : (fs : List Field) × (fields_of (part (to + 1) end s) ≡ some fs)
-  chained-body = some_is (fields_of (part (to + 1) end s)) chain
+  chained_body : (fs : List Field) × (fields_of (part (to + 1) end s) ≡ some fs)
+  chained_body = some_is (fields_of (part (to + 1) end s)) chain
 
   abbrev body : List Field
-  body = chained-body.0
+  body = chained_body.0
 
-  body-chain : Chain (part (to + 1) end s) body
-  body-chain = fields-only (part (to + 1) end s) body chained-body.1
+  body_chain : Chain (part (to + 1) end s) body
+  body_chain = fields_only (part (to + 1) end s) body chained_body.1
 
-  tail-is : (drop end s ≡ field_bytes (field 10 (fixed 3 v))) × (v < 1000)
-  tail-is =
+  tail_is : (drop end s ≡ field_bytes (field 10 (fixed 3 v))) × (v < 1000)
+  tail_is =
       let t : part end (length s) s ≡ drop end s = take_all (length s - end) (drop end s) (rw length-drop (omega arith)) in
-      trailer-only (drop end s) v (rw t at x.trailer)
+      trailer_only (drop end s) v (rw t at x.trailer)
 
-  rest-is : drop (to + 1) s ≡ bytes_of body ++ field_bytes (field 10 (fixed 3 v))
-  rest-is =
+  rest_is : drop (to + 1) s ≡ bytes_of body ++ field_bytes (field 10 (fixed 3 v))
+  rest_is =
       let k = end - (to + 1) in
       let q : to + 1 + k ≡ end = omega (arith, x.order) in
-      sym (take-append-drop k (drop (to + 1) s)) ∙ rw (drop-drop k (to + 1) s, q, tail-is.0, ← body-chain.same)
+      sym (take-append-drop k (drop (to + 1) s)) ∙ rw (drop-drop k (to + 1) s, q, tail_is.0, ← body_chain.same)
 
-  third-is : drop x.at s ≡ field_bytes (field 35 c) ++ (bytes_of body ++ field_bytes (field 10 (fixed 3 v)))
-  third-is = (found s x.at (opened s x.head).third).same ∙ rw rest-is
+  third_is : drop x.at s ≡ field_bytes (field 35 c) ++ (bytes_of body ++ field_bytes (field 10 (fixed 3 v)))
+  third_is = (found s x.at (opened s x.head).third).same ∙ rw rest_is
 
-  count-is : x.count ≡ length (bytes_of (field 35 c ∷ body))
+  count_is : x.count ≡ length (bytes_of (field 35 c ∷ body))
   unfolding bytes_of
-  count-is =
+  count_is =
       let b = bytes_of body in
       let z = field_bytes (field 10 (fixed 3 v)) in
-      rw length-append (omega (arith, x.counts, ap length third-is, length-drop x.at s, length-append (field_bytes (field 35 c)) (b ++ z), length-append b z, length-ten v))
+      rw length-append (omega (arith, x.counts, ap length third_is, length-drop x.at s, length-append (field_bytes (field 35 c)) (b ++ z), length-append b z, length_ten v))
 
-  shaped-well : Well s c body v
-  shaped-well =
+  shaped_well : Well s c body v
+  shaped_well =
       let o = opened s x.head in
       let f = found s 10 o.nine in
       let g = found s x.at o.third in
-      let m : part o.low o.high s ≡ decimal (length (bytes_of (field 35 c ∷ body))) = sym (decimal-back 5 (part o.low o.high s) o.count) ∙ ap decimal count-is in
-      let n : drop 10 s ≡ field_bytes (field 9 (decimal (length (bytes_of (field 35 c ∷ body))))) ++ (field_bytes (field 35 c) ++ (bytes_of body ++ field_bytes (field 10 (fixed 3 v)))) = rw (m, o.next, third-is) at f.same in
+      let m : part o.low o.high s ≡ decimal (length (bytes_of (field 35 c ∷ body))) = sym (decimal_back 5 (part o.low o.high s) o.count) ∙ ap decimal count_is in
+      let n : drop 10 s ≡ field_bytes (field 9 (decimal (length (bytes_of (field 35 c ∷ body))))) ++ (field_bytes (field 35 c) ++ (bytes_of body ++ field_bytes (field 10 (fixed 3 v)))) = rw (m, o.next, third_is) at f.same in
       record {
         same = sym (take-append-drop 10 s) ∙ ap (λ (l : List ℕ). l ++ drop 10 s) o.begin ∙ ap (λ (l : List ℕ). preamble ++ l) n ∙ sym (whole_is c body v);
-        fair = rw (g.fair, body-chain.fair);
-        small = tail-is.1;
+        fair = rw (g.fair, body_chain.fair);
+        small = tail_is.1;
         short = x.short;
       }
 
-  pub shaped-held : Held s
-  shaped-held = record { c = c; body = body; v = v; well = shaped-well }
+  pub shaped_held : Held s
+  shaped_held = record { c = c; body = body; v = v; well = shaped_well }
 
 -- ---- read by fields
 field_is : (f : Field) (t : ℕ) (v : List ℕ) → f.tag ≡ t → f.text ≡ v → f ≡ field t v
 field_is f t v p q = ap (λ (u : ℕ). field u f.text) p ∙ ap (field t) q
 
 -- all but the last, and the last
-pub front-last : (a f : Field) (fs : List Field) → front_of (f ∷ fs) ++ (last_of a (f ∷ fs) ∷ []) ≡ f ∷ fs
-front-last a f [] = refl
-front-last a f (g ∷ fs) = ap (λ (r : List Field). f ∷ r) (front-last f g fs)
+pub front_last : (a f : Field) (fs : List Field) → front_of (f ∷ fs) ++ (last_of a (f ∷ fs) ∷ []) ≡ f ∷ fs
+front_last a f [] = refl
+front_last a f (g ∷ fs) = ap (λ (r : List Field). f ∷ r) (front_last f g fs)
 
-reads-is : (r : Number) (n : ℕ) → reads r n ≡ true → r ≡ Number.Is n
-reads-is Number.No n e = let z : ◌≡◌ {A = ℕ} 0 1 = cc in absurd (omega arith)
-reads-is (Number.Is v) n e = ap Number.Is (eqb-true v n e)
+reads_is : (r : Number) (n : ℕ) → reads r n ≡ true → r ≡ Number.Is n
+reads_is Number.No n e = let z : ◌≡◌ {A = ℕ} 0 1 = cc in absurd (omega arith)
+reads_is (Number.Is v) n e = ap Number.Is (eqb-true v n e)
 
-pub counts-is : (b : Field) (fs : List Field) → counts b fs ≡ true → b ≡ field 9 (decimal (length (bytes_of fs)))
-counts-is b fs e =
+pub counts_is : (b : Field) (fs : List Field) → counts b fs ≡ true → b ≡ field 9 (decimal (length (bytes_of fs)))
+counts_is b fs e =
     let d = both (eqb b.tag 9) (reads (whole_of 5 b.text) (length (bytes_of fs))) e in
-    field_is b 9 (decimal (length (bytes_of fs))) (eqb-true b.tag 9 d.0) (sym (decimal-back 5 b.text (reads-is (whole_of 5 b.text) (length (bytes_of fs)) d.1)))
+    field_is b 9 (decimal (length (bytes_of fs))) (eqb-true b.tag 9 d.0) (sym (decimal_back 5 b.text (reads_is (whole_of 5 b.text) (length (bytes_of fs)) d.1)))
 
-pub begins-is : (a : Field) → begins a ≡ true → a ≡ field 8 begin
-begins-is a e =
+pub begins_is : (a : Field) → begins a ≡ true → a ≡ field 8 begin
+begins_is a e =
     let d = both (eqb a.tag 8) (equal a.text begin) e in
     field_is a 8 begin (eqb-true a.tag 8 d.0) (equal_is a.text begin d.1)
 
@@ -138,14 +138,14 @@ sum_is z v e = go (eqb z.tag 10) (eqb (length z.text) 3) refl refl e
     go : (a b : Bool) → eqb z.tag 10 ≡ a → eqb (length z.text) 3 ≡ b → cond (a && b) (digits_of 3 z.text) Number.No ≡ Number.Is v
         → (z ≡ field 10 (fixed 3 v)) × (v < 1000)
     go true true p q h =
-        let d = three-digits z.text v (eqb-true (length z.text) 3 q) h in
+        let d = three_digits z.text v (eqb-true (length z.text) 3 q) h in
         (field_is z 10 (fixed 3 v) (eqb-true z.tag 10 p) (sym d.0), d.1)
     go true false p q h = let z : ◌≡◌ {A = ℕ} 0 1 = cc in absurd (omega arith)
     go false b p q h = let z : ◌≡◌ {A = ℕ} 0 1 = cc in absurd (omega arith)
 
-fair-front : (a b : List Field) → all_fair (a ++ b) ≡ true → all_fair a ≡ true
-fair-front [] b h = refl
-fair-front (f ∷ a) b h = let d = both (fair f) (all_fair (a ++ b)) h in rw (d.0, fair-front a b d.1)
+fair_front : (a b : List Field) → all_fair (a ++ b) ≡ true → all_fair a ≡ true
+fair_front [] b h = refl
+fair_front (f ∷ a) b h = let d = both (fair f) (all_fair (a ++ b)) h in rw (d.0, fair_front a b d.1)
 
 after_two : (a b c : Field) (fs : List Field) → all_fair (a ∷ b ∷ c ∷ fs) ≡ true → (fair c ≡ true) × (all_fair fs ≡ true)
 after_two a b c fs h = both (fair c) (all_fair fs) (both (fair b) (fair c && all_fair fs) (both (fair a) (fair b && (fair c && all_fair fs)) h).1).1
@@ -158,41 +158,41 @@ module _ (s : List ℕ) (a b c : Field) (fs : List Field) (v : ℕ) (e : fields_
     where
       go : (gs : List Field) → sum_of (last_of c gs) ≡ Number.Is v → front_of gs ++ (last_of c gs ∷ []) ≡ gs
       go [] h = absurd (omega (arith, ap (λ (f : Field). f.tag) (sum_is c v h).0, eqb-true c.tag 35 third))
-      go (g ∷ gs) h = front-last c g gs
+      go (g ∷ gs) h = front_last c g gs
 
-  third-field : c ≡ field 35 c.text
-  third-field = field_is c 35 c.text (eqb-true c.tag 35 third) refl
+  third_field : c ≡ field 35 c.text
+  third_field = field_is c 35 c.text (eqb-true c.tag 35 third) refl
 
-  all-fields : a ∷ b ∷ c ∷ fs ≡ ended (field 35 c.text ∷ front_of fs) v
-  all-fields = cc (begins-is a first, counts-is b (c ∷ front_of fs) second, third-field, others, (sum_is (last_of c fs) v last).0)
+  all_fields : a ∷ b ∷ c ∷ fs ≡ ended (field 35 c.text ∷ front_of fs) v
+  all_fields = cc (begins_is a first, counts_is b (c ∷ front_of fs) second, third_field, others, (sum_is (last_of c fs) v last).0)
 
-  fields-held : Held s
-  fields-held =
-      let h = fields-only s (a ∷ b ∷ c ∷ fs) e in
-      let g : all_fair (ended (field 35 c.text ∷ front_of fs) v) ≡ true = ap all_fair (sym all-fields) ∙ h.fair in
+  fields_held : Held s
+  fields_held =
+      let h = fields_only s (a ∷ b ∷ c ∷ fs) e in
+      let g : all_fair (ended (field 35 c.text ∷ front_of fs) v) ≡ true = ap all_fair (sym all_fields) ∙ h.fair in
       let d = after_two (field 8 begin) (field 9 (decimal (length (bytes_of (field 35 c.text ∷ front_of fs))))) (field 35 c.text) (front_of fs ++ (field 10 (fixed 3 v) ∷ [])) g in
       record {
         c = c.text;
         body = front_of fs;
         v = v;
         well = record {
-          same = sym h.same ∙ ap bytes_of all-fields;
-          fair = rw (d.0, fair-front (front_of fs) (field 10 (fixed 3 v) ∷ []) d.1);
+          same = sym h.same ∙ ap bytes_of all_fields;
+          fair = rw (d.0, fair_front (front_of fs) (field 10 (fixed 3 v) ∷ []) d.1);
           small = (sum_is (last_of c fs) v last).1;
           short = short;
         };
       }
 
 -- broken, or held
-pub frame-cases : (s : List ℕ) → (frame_of s ≡ Framed.BadFrame) ⊎ Held s
+pub frame_cases : (s : List ℕ) → (frame_of s ≡ Framed.BadFrame) ⊎ Held s
 unfolding frame_of
-frame-cases s = go (leb 1 (length s)) (leb (length s) 8192) (fields_of s) refl refl
+frame_cases s = go (leb 1 (length s)) (leb (length s) 8192) (fields_of s) refl refl
   where
     summing : (a b c : Field) (fs : List Field) (r : Number) (t : Framed) → fields_of s ≡ some (a ∷ b ∷ c ∷ fs) → length s ≤ 8192
         → begins a ≡ true → counts b (c ∷ front_of fs) ≡ true → eqb c.tag 35 ≡ true → sum_of (last_of c fs) ≡ r
         → (summed r (a ∷ b ∷ c ∷ front_of fs) t ≡ Framed.BadFrame) ⊎ Held s
     summing a b c fs Number.No t e l f g h i = inl refl
-    summing a b c fs (Number.Is v) t e l f g h i = inr (fields-held s a b c fs v e l f g h i)
+    summing a b c fs (Number.Is v) t e l f g h i = inr (fields_held s a b c fs v e l f g h i)
 
     testing : (a b c : Field) (fs : List Field) (x y z : Bool) → fields_of s ≡ some (a ∷ b ∷ c ∷ fs) → length s ≤ 8192
         → begins a ≡ x → counts b (c ∷ front_of fs) ≡ y → eqb c.tag 35 ≡ z
@@ -213,49 +213,49 @@ frame-cases s = go (leb 1 (length s)) (leb (length s) 8192) (fields_of s) refl r
     go true true (some (a ∷ b ∷ c ∷ fs)) p e = testing a b c fs (begins a) (counts b (c ∷ front_of fs)) (eqb c.tag 35) e (leb-true (length s) 8192 p) refl refl refl
 
 -- the frame by its places
-pub by-places : (s : List ℕ) → frame_of s ≡ frame_in s (parts_of s)
-by-places s = go (parts_of s) refl (frame-cases s)
+pub by_places : (s : List ℕ) → frame_of s ≡ frame_in s (parts_of s)
+by_places s = go (parts_of s) refl (frame_cases s)
   where
     held : Held s → frame_of s ≡ frame_in s (parts_of s)
     held h =
-        frame-well s h.c h.body h.v h.well
-        ∙ rw (parts-well s h.c h.body h.v h.well, chain-well s h.c h.body h.v h.well)
+        frame_well s h.c h.body h.v h.well
+        ∙ rw (parts_well s h.c h.body h.v h.well, chain_well s h.c h.body h.v h.well)
 
-    chained-or : {from to v : ℕ} (z : Bool) → parts_of s ≡ Shape.Is from to v → is_some (fields_of (part (to + 1) (length s - 7) s)) ≡ z
+    chained_or : {from to v : ℕ} (z : Bool) → parts_of s ≡ Shape.Is from to v → is_some (fields_of (part (to + 1) (length s - 7) s)) ≡ z
         → frame_of s ≡ Framed.BadFrame → frame_of s ≡ frame_in s (parts_of s)
-    chained-or true e p q = held (shaped-held s (shaped s e) p)
-    chained-or false e p q = q ∙ rw (e, p)
+    chained_or true e p q = held (shaped_held s (shaped s e) p)
+    chained_or false e p q = q ∙ rw (e, p)
 
     go : (x : Shape) → parts_of s ≡ x → (frame_of s ≡ Framed.BadFrame) ⊎ Held s → frame_of s ≡ frame_in s (parts_of s)
     go x e (inr h) = held h
     go Shape.No e (inl q) = q ∙ rw e
-    go (Shape.Is from to v) e (inl q) = chained-or (is_some (fields_of (part (to + 1) (length s - 7) s))) e refl q
+    go (Shape.Is from to v) e (inl q) = chained_or (is_some (fields_of (part (to + 1) (length s - 7) s))) e refl q
 
 module _ (s : List ℕ) where
-  pub no-frame : parts_of s ≡ Shape.No → frame_of s ≡ Framed.BadFrame
-  no-frame e = by-places s ∙ rw e
+  pub no_frame : parts_of s ≡ Shape.No → frame_of s ≡ Framed.BadFrame
+  no_frame e = by_places s ∙ rw e
 
   module _ {from to v : ℕ} (e : parts_of s ≡ Shape.Is from to v) where
-    pub no-chain : is_some (fields_of (part (to + 1) (length s - 7) s)) ≡ false → frame_of s ≡ Framed.BadFrame
-    no-chain p = by-places s ∙ rw (e, p)
+    pub no_chain : is_some (fields_of (part (to + 1) (length s - 7) s)) ≡ false → frame_of s ≡ Framed.BadFrame
+    no_chain p = by_places s ∙ rw (e, p)
 
-    pub a-chain : is_some (fields_of (part (to + 1) (length s - 7) s)) ≡ true → frame_of s ≡ judged s from to v
-    a-chain p = by-places s ∙ rw (e, p)
+    pub a_chain : is_some (fields_of (part (to + 1) (length s - 7) s)) ≡ true → frame_of s ≡ judged s from to v
+    a_chain p = by_places s ∙ rw (e, p)
 
-  pub no-outline : parts_of s ≡ Shape.No → outline_of s ≡ Framed.BadFrame
+  pub no_outline : parts_of s ≡ Shape.No → outline_of s ≡ Framed.BadFrame
   unfolding outline_of
-  no-outline e = rw e
+  no_outline e = rw e
 
-  pub an-outline : {from to v : ℕ} → parts_of s ≡ Shape.Is from to v → outline_of s ≡ judged s from to v
+  pub an_outline : {from to v : ℕ} → parts_of s ≡ Shape.Is from to v → outline_of s ≡ judged s from to v
   unfolding outline_of
-  an-outline e = rw e
+  an_outline e = rw e
 
   module _ (from to v u : ℕ) (sum : u ≡ total (take (length s - 7) s) % 256) where
-    pub other-sum : (u ≡ v → ⊥) → judged s from to v ≡ Framed.BadSum
-    other-sum h = rw (← sum, ne_eqb v u (λ q. h (sym q)))
+    pub other_sum : (u ≡ v → ⊥) → judged s from to v ≡ Framed.BadSum
+    other_sum h = rw (← sum, ne_eqb v u (λ q. h (sym q)))
 
-    pub right-sum : u ≡ v → judged s from to v ≡ typed (part from to s) (to + 1)
-    right-sum h = rw (← sum, eq-eqb v u (sym h))
+    pub right_sum : u ≡ v → judged s from to v ≡ typed (part from to s) (to + 1)
+    right_sum h = rw (← sum, eq-eqb v u (sym h))
 
 -- where the type stands
 pub record Placed (s : List ℕ) (from to : ℕ) : Type 0 where
@@ -264,8 +264,8 @@ pub record Placed (s : List ℕ) (from to : ℕ) : Type 0 where
   pub long : 7 ≤ length s
   pub order : to + 1 ≤ length s - 7
 
-pub type-placed : (s : List ℕ) {from to v : ℕ} → parts_of s ≡ Shape.Is from to v → Placed s from to
-type-placed s e =
+pub type_placed : (s : List ℕ) {from to v : ℕ} → parts_of s ≡ Shape.Is from to v → Placed s from to
+type_placed s e =
     let x = shaped s e in
     let i = opened_inside s x.head in
     record { some = i.some; high = i.high; long = omega (arith, x.counts); order = x.order }

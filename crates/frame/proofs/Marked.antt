@@ -5,24 +5,24 @@ use Rattle.text.specs.Text.{fixed, width_to, width_of, decimal}
 use Rattle.chain.specs.Fields.{field_of, cut, fields_of}
 use Rattle.chain.specs.Bytes.{field_bytes, bytes_of}
 use Rattle.frame.specs.Frames.{total, frame_of}
-use Rattle.frame.specs.Marked.{before-ten, message}
+use Rattle.frame.specs.Marked.{before_ten, message}
 use Rattle.frame.specs.declared.Framed.{Framed}
 
 size : length message ≡ 110
 size = refl
 
 -- M14
-pub sums-to-29 : total before-ten % 256 ≡ 29
-sums-to-29 = refl
+pub sums_to_29 : total before_ten % 256 ≡ 29
+sums_to_29 = refl
 
 pub frames : frame_of message ≡ Framed.Is 87 20
 unfolding frame_of fields_of cut field_of ranged_of whole_of digits_of bytes_of field_bytes decimal width_of width_to fixed
 frames = refl
 
 -- 10=285 for a sum of 29 is 12
-other-sum : frame_of (before-ten ++ (49 ∷ 48 ∷ 61 ∷ 50 ∷ 56 ∷ 53 ∷ 1 ∷ [])) ≡ Framed.BadSum
+other_sum : frame_of (before_ten ++ (49 ∷ 48 ∷ 61 ∷ 50 ∷ 56 ∷ 53 ∷ 1 ∷ [])) ≡ Framed.BadSum
 unfolding frame_of fields_of cut field_of ranged_of whole_of digits_of bytes_of field_bytes decimal width_of width_to fixed
-other-sum = refl
+other_sum = refl
 
 -- ---- short messages: 8=FIX.4.4| or another start, tag 9, the fields from 35 on, and the trailer
 abbrev eight : List ℕ
@@ -48,9 +48,9 @@ no_bytes = refl
 
 -- tag 9 = "0" is good digits and a wrong count: 11
 -- 8=FIX.4.4|9=0|35=W|34=1|10=155|
-no-count : frame_of (eight ++ nine (48 ∷ []) ++ type (87 ∷ []) ++ number ++ ten 1 5 5) ≡ Framed.BadFrame
+no_count : frame_of (eight ++ nine (48 ∷ []) ++ type (87 ∷ []) ++ number ++ ten 1 5 5) ≡ Framed.BadFrame
 unfolding frame_of fields_of cut field_of ranged_of whole_of digits_of bytes_of field_bytes decimal width_of width_to fixed
-no-count = refl
+no_count = refl
 
 -- a leading zero in 9 is 11
 -- 8=FIX.4.4|9=010|35=W|34=1|10=252|
@@ -60,21 +60,21 @@ lead_zero = refl
 
 -- a wrong count with a wrong sum is 11, not 12
 -- 8=FIX.4.4|9=9|35=W|34=1|10=000|
-both-wrong : frame_of (eight ++ nine (57 ∷ []) ++ type (87 ∷ []) ++ number ++ ten 0 0 0) ≡ Framed.BadFrame
+both_wrong : frame_of (eight ++ nine (57 ∷ []) ++ type (87 ∷ []) ++ number ++ ten 0 0 0) ≡ Framed.BadFrame
 unfolding frame_of fields_of cut field_of ranged_of whole_of digits_of bytes_of field_bytes decimal width_of width_to fixed
-both-wrong = refl
+both_wrong = refl
 
 -- the begin string FIX4.4 is 11
 -- 8=FIX4.4|9=10|35=W|34=1|10=158|
-no-point : frame_of ((56 ∷ 61 ∷ 70 ∷ 73 ∷ 88 ∷ 52 ∷ 46 ∷ 52 ∷ 1 ∷ []) ++ nine (49 ∷ 48 ∷ []) ++ type (87 ∷ []) ++ number ++ ten 1 5 8) ≡ Framed.BadFrame
+no_point : frame_of ((56 ∷ 61 ∷ 70 ∷ 73 ∷ 88 ∷ 52 ∷ 46 ∷ 52 ∷ 1 ∷ []) ++ nine (49 ∷ 48 ∷ []) ++ type (87 ∷ []) ++ number ++ ten 1 5 8) ≡ Framed.BadFrame
 unfolding frame_of fields_of cut field_of ranged_of whole_of digits_of bytes_of field_bytes decimal width_of width_to fixed
-no-point = refl
+no_point = refl
 
 -- a type that is not ours is 13
 -- 8=FIX.4.4|9=10|35=A|34=1|10=182|
-other-type : frame_of (eight ++ nine (49 ∷ 48 ∷ []) ++ type (65 ∷ []) ++ number ++ ten 1 8 2) ≡ Framed.BadType
+other_type : frame_of (eight ++ nine (49 ∷ 48 ∷ []) ++ type (65 ∷ []) ++ number ++ ten 1 8 2) ≡ Framed.BadType
 unfolding frame_of fields_of cut field_of ranged_of whole_of digits_of bytes_of field_bytes decimal width_of width_to fixed
-other-type = refl
+other_type = refl
 
 -- a type of two bytes is 13
 -- 8=FIX.4.4|9=11|35=WW|34=1|10=036|

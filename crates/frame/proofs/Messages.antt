@@ -12,8 +12,8 @@ use Rattle.frame.specs.ByPlace.{parts_of, judged, outline_in, outline_of, frame_
 use Rattle.frame.specs.Laws.{Outline, ChainedIsFrame, FrameIsOutlined}
 use Rattle.frame.specs.declared.Shape.{Shape}
 use Rattle.frame.specs.declared.Framed.{Framed}
-use Rattle.frame.proofs.Well.{Well, type_at, summed_at, chain-well, body-well, fields-well, frame-well, whole_length, inner-length}
-use Rattle.frame.proofs.Framing.{Held, frame-cases, by-places, a-chain, type-placed}
+use Rattle.frame.proofs.Well.{Well, type_at, summed_at, chain_well, body_well, fields_well, frame_well, whole_length, inner_length}
+use Rattle.frame.proofs.Framing.{Held, frame_cases, by_places, a_chain, type_placed}
 
 -- what is known of a message with a good frame: the type, and where the fields after 35 stand and which they are
 pub record Framing (s : List ℕ) (kind from : ℕ) : Type 0 where
@@ -29,18 +29,18 @@ pub record Framing (s : List ℕ) (kind from : ℕ) : Type 0 where
 never : (s : List ℕ) {kind from : ℕ} → frame_of s ≡ Framed.Is kind from → frame_of s ≡ Framed.BadFrame → ⊥
 never s p q = let z : ◌≡◌ {A = ℕ} 0 1 = cc in omega arith
 
-typed-is : (c : List ℕ) (n : ℕ) {kind from : ℕ} → typed c n ≡ Framed.Is kind from → (c ≡ kind ∷ []) × (is_type kind ≡ true) × (n ≡ from)
-typed-is [] n e = let z : ◌≡◌ {A = ℕ} 0 1 = cc in absurd (omega arith)
-typed-is (k ∷ []) n {kind} {from} e = go (is_type k) refl e
+typed_is : (c : List ℕ) (n : ℕ) {kind from : ℕ} → typed c n ≡ Framed.Is kind from → (c ≡ kind ∷ []) × (is_type kind ≡ true) × (n ≡ from)
+typed_is [] n e = let z : ◌≡◌ {A = ℕ} 0 1 = cc in absurd (omega arith)
+typed_is (k ∷ []) n {kind} {from} e = go (is_type k) refl e
   where
     go : (t : Bool) → is_type k ≡ t → cond t (Framed.Is k n) Framed.BadType ≡ Framed.Is kind from
         → (k ∷ [] ≡ kind ∷ []) × (is_type kind ≡ true) × (n ≡ from)
     go true p h = let q : k ≡ kind = cc in (ap (λ (u : ℕ). u ∷ []) q, ap is_type (sym q) ∙ p, cc)
     go false p h = let z : ◌≡◌ {A = ℕ} 0 1 = cc in absurd (omega arith)
-typed-is (k ∷ l ∷ c) n e = let z : ◌≡◌ {A = ℕ} 0 1 = cc in absurd (omega arith)
+typed_is (k ∷ l ∷ c) n e = let z : ◌≡◌ {A = ℕ} 0 1 = cc in absurd (omega arith)
 
-judged-is : (v u : ℕ) (t : Framed) {kind from : ℕ} → cond (eqb v u) t Framed.BadSum ≡ Framed.Is kind from → (v ≡ u) × (t ≡ Framed.Is kind from)
-judged-is v u t {kind} {from} e = go (eqb v u) refl e
+judged_is : (v u : ℕ) (t : Framed) {kind from : ℕ} → cond (eqb v u) t Framed.BadSum ≡ Framed.Is kind from → (v ≡ u) × (t ≡ Framed.Is kind from)
+judged_is v u t {kind} {from} e = go (eqb v u) refl e
   where
     go : (b : Bool) → eqb v u ≡ b → cond b t Framed.BadSum ≡ Framed.Is kind from → (v ≡ u) × (t ≡ Framed.Is kind from)
     go true p h = (eqb-true v u p, h)
@@ -53,35 +53,35 @@ module _ (s : List ℕ) {kind from : ℕ} (e : frame_of s ≡ Framed.Is kind fro
   -- the sum is right, and the type is one of ours
   told : (v ≡ total (take (length s - 7) s) % 256) × ((c ≡ kind ∷ []) × (is_type kind ≡ true) × (13 + d + 3 + length c + 1 ≡ from))
   told =
-      let j = judged-is v (total (take (length s - 7) s) % 256) (typed (part (13 + d + 3) (13 + d + 3 + length c) s) (13 + d + 3 + length c + 1)) (sym (frame-well s c body v w) ∙ e) in
-      (j.0, typed-is c (13 + d + 3 + length c + 1) (rw (type_at s c body v w) at j.1))
+      let j = judged_is v (total (take (length s - 7) s) % 256) (typed (part (13 + d + 3) (13 + d + 3 + length c) s) (13 + d + 3 + length c + 1)) (sym (frame_well s c body v w) ∙ e) in
+      (j.0, typed_is c (13 + d + 3 + length c + 1) (rw (type_at s c body v w) at j.1))
 
   framed_is : framed (field 35 (kind ∷ []) ∷ body_of s) ≡ ended (field 35 c ∷ body) v
   unfolding framed
-  framed_is = rw (body-well s c body v w, ← told.1.0, ← summed_at s c body v w, ← told.0)
+  framed_is = rw (body_well s c body v w, ← told.1.0, ← summed_at s c body v w, ← told.0)
 
-  framing-of : Framing s kind from
-  framing-of =
-      let b = body-well s c body v w in
+  framing_of : Framing s kind from
+  framing_of =
+      let b = body_well s c body v w in
       let l = whole_length s c body v w in
-      let i = inner-length s c body v w in
+      let i = inner_length s c body v w in
       record {
         type = told.1.1;
         short = w.short;
         long = omega (arith, l);
         inside = omega (arith, told.1.2, l, i);
-        body = rw (← told.1.2, b) (chain-well s c body v w);
+        body = rw (← told.1.2, b) (chain_well s c body v w);
         fair = rw b (both (fair (field 35 c)) (all_fair body) w.fair).1;
-        fields = fields-well s c body v w ∙ ap some (sym framed_is);
+        fields = fields_well s c body v w ∙ ap some (sym framed_is);
         same = w.same ∙ ap bytes_of (sym framed_is);
       }
 
 pub framing : (s : List ℕ) {kind from : ℕ} → frame_of s ≡ Framed.Is kind from → Framing s kind from
-framing s {kind} {from} e = go (frame-cases s)
+framing s {kind} {from} e = go (frame_cases s)
   where
     go : (frame_of s ≡ Framed.BadFrame) ⊎ Held s → Framing s kind from
     go (inl q) = absurd (never s e q)
-    go (inr h) = framing-of s e h.c h.body h.v h.well
+    go (inr h) = framing_of s e h.c h.body h.v h.well
 
 -- ---- what an outline says
 pub outline : ChainedIsFrame
@@ -91,15 +91,15 @@ outline s kind from e = go (parts_of s) refl e
     go : (x : Shape) → parts_of s ≡ x → outline_in s x ≡ Framed.Is kind from → Outline s kind from
     go Shape.No p h = let z : ◌≡◌ {A = ℕ} 0 1 = cc in absurd (omega arith)
     go (Shape.Is a b v) p h =
-        let j = judged-is v (total (take (length s - 7) s) % 256) (typed (part a b s) (b + 1)) h in
-        let t = typed-is (part a b s) (b + 1) j.1 in
-        let x = type-placed s p in
-        record { type = t.1; long = x.long; inside = omega (arith, t.2, x.order); frame = λ c. a-chain s p (rw (← t.2) at c) ∙ h }
+        let j = judged_is v (total (take (length s - 7) s) % 256) (typed (part a b s) (b + 1)) h in
+        let t = typed_is (part a b s) (b + 1) j.1 in
+        let x = type_placed s p in
+        record { type = t.1; long = x.long; inside = omega (arith, t.2, x.order); frame = λ c. a_chain s p (rw (← t.2) at c) ∙ h }
 
 -- a message with a good frame has that outline
 pub outlined : FrameIsOutlined
 unfolding outline_of
-outlined s kind from e = go (parts_of s) (sym (by-places s) ∙ e)
+outlined s kind from e = go (parts_of s) (sym (by_places s) ∙ e)
   where
     chain : (z : Bool) (r : Framed) → cond z r Framed.BadFrame ≡ Framed.Is kind from → r ≡ Framed.Is kind from
     chain true r h = h
@@ -110,9 +110,9 @@ outlined s kind from e = go (parts_of s) (sym (by-places s) ∙ e)
     go (Shape.Is a b v) h = chain (is_some (fields_of (part (b + 1) (length s - 7) s))) (judged s a b v) h
 
 -- ---- the writer's side
-type-fair : (k : ℕ) → is_type k ≡ true → fair (field 35 (k ∷ [])) ≡ true
+type_fair : (k : ℕ) → is_type k ≡ true → fair (field 35 (k ∷ [])) ≡ true
 unfolding fair
-type-fair k h = go (eqb k 1) refl
+type_fair k h = go (eqb k 1) refl
   where
     go : (t : Bool) → eqb k 1 ≡ t → not t && true ≡ true
     go true p = absurd (false≢true (ap is_type (sym (eqb-true k 1 p)) ∙ h))
@@ -131,10 +131,10 @@ frame_back k fs h f l =
     let between = field 35 (k ∷ []) ∷ fs in
     let v = total (bytes_of (headed between)) % 256 in
     let s = bytes_of (ended between v) in
-    let w : Well s (k ∷ []) fs v = record { same = refl; fair = rw (type-fair k h, f); small = omega arith; short = l } in
+    let w : Well s (k ∷ []) fs v = record { same = refl; fair = rw (type_fair k h, f); small = omega arith; short = l } in
     let d = length (decimal (length (bytes_of between))) in
     record {
       from = 13 + d + 3 + 1 + 1;
-      frame = frame-well s (k ∷ []) fs v w ∙ rw (type_at s (k ∷ []) fs v w, summed_at s (k ∷ []) fs v w, eq-eqb v v refl, h);
-      body = body-well s (k ∷ []) fs v w;
+      frame = frame_well s (k ∷ []) fs v w ∙ rw (type_at s (k ∷ []) fs v w, summed_at s (k ∷ []) fs v w, eq-eqb v v refl, h);
+      body = body_well s (k ∷ []) fs v w;
     }

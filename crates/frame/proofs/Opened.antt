@@ -21,9 +21,9 @@ equal_is (x ∷ a) (y ∷ b) h =
     let d = both (eqb x y) (equal a b) h in
     ap (λ (u : ℕ). u ∷ a) (eqb-true x y d.0) ∙ ap (λ (u : List ℕ). y ∷ u) (equal_is a b d.1)
 
-pub equal-same : (a : List ℕ) → equal a a ≡ true
-equal-same [] = refl
-equal-same (x ∷ a) = rw (eq-eqb x x refl, equal-same a)
+pub equal_same : (a : List ℕ) → equal a a ≡ true
+equal_same [] = refl
+equal_same (x ∷ a) = rw (eq-eqb x x refl, equal_same a)
 
 -- too few bytes
 pub too_short : (s : List ℕ) → length s < 10 → equal (take 10 s) preamble ≡ false
@@ -34,15 +34,15 @@ too_short s h = go (equal (take 10 s) preamble) refl
     go false e = refl
 
 -- ---- the type
-pub no-type : (v : List ℕ) (from : ℕ) → (length v ≡ 1 → ⊥) → typed v from ≡ Framed.BadType
-no-type [] from h = refl
-no-type (k ∷ []) from h = absurd (h refl)
-no-type (k ∷ l ∷ v) from h = refl
+pub no_type : (v : List ℕ) (from : ℕ) → (length v ≡ 1 → ⊥) → typed v from ≡ Framed.BadType
+no_type [] from h = refl
+no_type (k ∷ []) from h = absurd (h refl)
+no_type (k ∷ l ∷ v) from h = refl
 
-pub a-type : (v : List ℕ) (from : ℕ) → length v ≡ 1 → typed v from ≡ cond (is_type (get_or v 0 0)) (Framed.Is (get_or v 0 0) from) Framed.BadType
-a-type [] from h = absurd (omega arith)
-a-type (k ∷ []) from h = refl
-a-type (k ∷ l ∷ v) from h = absurd (omega arith)
+pub a_type : (v : List ℕ) (from : ℕ) → length v ≡ 1 → typed v from ≡ cond (is_type (get_or v 0 0)) (Framed.Is (get_or v 0 0) from) Framed.BadType
+a_type [] from h = absurd (omega arith)
+a_type (k ∷ []) from h = refl
+a_type (k ∷ l ∷ v) from h = absurd (omega arith)
 
 -- ---- the first three fields
 pub tagged_is : (t : ℕ) (x : Step) {u from to : ℕ} → tagged t x ≡ Step.Is u from to → x ≡ Step.Is t from to

@@ -26,8 +26,8 @@ module _ (a b : List ℕ) (i : ℕ) where
   pub agrees : i < length a → i < length b → get_or a i 0 ≡ get_or b i 0 → equal (drop i a) (drop i b) ≡ equal (drop (i + 1) a) (drop (i + 1) b)
   agrees l k h = simp (drop-cons a i 0 l, drop-cons b i 0 k, eq-eqb (get_or a i 0) (get_or b i 0) h, add-one)
 
-  pub at-end : length a ≤ i → equal (drop i a) (drop i b) ≡ leb (length b) i
-  at-end l = go (leb (length b) i) refl
+  pub at_end_lem : length a ≤ i → equal (drop i a) (drop i b) ≡ leb (length b) i
+  at_end_lem l = go (leb (length b) i) refl
     where
       go : (t : Bool) → leb (length b) i ≡ t → equal (drop i a) (drop i b) ≡ t
       go true e = rw (drop_of_length-le a l, drop_of_length-le b (leb-true (length b) i e))

@@ -1,4 +1,4 @@
--- The frame place by place, as the code reads it: 11 first, then the sum, then the type. `by-places` in proofs/Framing.antt
+-- The frame place by place, as the code reads it: 11 first, then the sum, then the type. `by_places` in proofs/Framing.antt
 -- shows that they come to `frame_of`; of these definitions a public contract cites only `outline_of`, and Laws.antt says how it
 -- comes to `frame_of`. Assumes nothing.
 use Rattle.std.specs.Prelude.{ℕ, ◌+◌, ◌-◌, ◌%◌, cond, ◌&&◌, List, [], ◌∷◌, length, take, ◌==◌, nat_le, slice_index}

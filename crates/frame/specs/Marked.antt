@@ -2,8 +2,8 @@
 use Rattle.std.specs.Prelude.{ℕ, List, [], ◌∷◌, ◌++◌}
 
 -- 8=FIX.4.4|9=88|35=W|49=SHED|56=YARD|34=1|52=20250103-13:00:00.000|48=7|22=8|207=BVMF|369=0|911=1|268=0|
-abbrev pub before-ten : List ℕ
-before-ten =
+abbrev pub before_ten : List ℕ
+before_ten =
     56 ∷ 61 ∷ 70 ∷ 73 ∷ 88 ∷ 46 ∷ 52 ∷ 46 ∷ 52 ∷ 1 ∷
     57 ∷ 61 ∷ 56 ∷ 56 ∷ 1 ∷
     51 ∷ 53 ∷ 61 ∷ 87 ∷ 1 ∷
@@ -20,4 +20,4 @@ before-ten =
 
 -- and 10=029|
 abbrev pub message : List ℕ
-message = before-ten ++ (49 ∷ 48 ∷ 61 ∷ 48 ∷ 50 ∷ 57 ∷ 1 ∷ [])
+message = before_ten ++ (49 ∷ 48 ∷ 61 ∷ 48 ∷ 50 ∷ 57 ∷ 1 ∷ [])

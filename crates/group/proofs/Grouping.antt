@@ -13,7 +13,7 @@ use Rattle.book.specs.declared.Update.{Update}
 use Rattle.chain.specs.Fields.{Field}
 use Rattle.tags.specs.Tags.{named_tags, has, tidy, all_tidy, up_to, parts, lookup}
 use Rattle.tags.specs.Slots.{between}
-use Rattle.tags.proofs.Tidiness.{fits, tidy-stray}
+use Rattle.tags.proofs.Tidiness.{fits, tidy_stray}
 use Rattle.values.specs.Values.{◌>>=◌, need}
 use Rattle.position.specs.Positions.{next_on, next_after, firsts, entry_in, at_next, entry_next}
 use Rattle.position.specs.declared.Next.{Next}
@@ -46,24 +46,24 @@ module _ (depth : ℕ) (t : Top) where
   all_said none = refl
   all_said (some us) = refl
 
-  needs-and : (a b c : Bool) (o : Option (List Update)) → need (a && (b && c)) o ≡ need b (need (a && c) o)
-  needs-and true true c o = refl
-  needs-and true false c o = refl
-  needs-and false true c o = refl
-  needs-and false false c o = refl
+  needs_and : (a b c : Bool) (o : Option (List Update)) → need (a && (b && c)) o ≡ need b (need (a && c) o)
+  needs_and true true c o = refl
+  needs_and true false c o = refl
+  needs_and false true c o = refl
+  needs_and false false c o = refl
 
-  pub group-start : (n : ℕ) (fs : List Field) → grouped depth t n fs ≡ outside n firsts [] fs
+  pub group_start : (n : ℕ) (fs : List Field) → grouped depth t n fs ≡ outside n firsts [] fs
   unfolding grouped outside closing ran
-  group-start n fs =
+  group_start n fs =
       let ps = parts t.first fs in
-      needs-and (eqb (length ps) n) (tidy named_tags [] (up_to t.first fs)) (all_tidy named_tags ours ps) (each (entry_in depth t) ps >>= λ us. need (ordered t firsts us) (some us))
+      needs_and (eqb (length ps) n) (tidy named_tags [] (up_to t.first fs)) (all_tidy named_tags ours ps) (each (entry_in depth t) ps >>= λ us. need (ordered t firsts us) (some us))
       ∙ rw (all_said (each (entry_in depth t) ps >>= λ us. need (ordered t firsts us) (some us)))
 
   -- ---- outside an entry
   module _ (more : ℕ) (next : Next) (us : List Update) where
-    pub at-end : more ≡ 0 → outside more next us [] ≡ some us
+    pub at_end_lem : more ≡ 0 → outside more next us [] ≡ some us
     unfolding outside closing ran up_to parts tidy all_tidy each ordered running
-    at-end q = rw (q, or-true, append-nil)
+    at_end_lem q = rw (q, or-true, append-nil)
 
     pub too_few : (more ≡ 0 → ⊥) → outside more next us [] ≡ none
     unfolding outside closing up_to parts tidy
@@ -101,7 +101,7 @@ module _ (depth : ℕ) (t : Top) where
 
       pub breaks : fits named_tags ours e f ≡ false → inside more next us e (f ∷ fs) ≡ none
       unfolding inside closing up_to parts all_tidy
-      breaks h = rw (ne_eqb f.tag t.first q, tidy-stray named_tags ours e f (up_to t.first fs) h, and-false)
+      breaks h = rw (ne_eqb f.tag t.first q, tidy_stray named_tags ours e f (up_to t.first fs) h, and-false)
 
   -- ---- at the end of one, where what is left starts with the first tag of an entry, or is nothing
   pub starts_none : up_to t.first [] ≡ []
@@ -114,22 +114,22 @@ module _ (depth : ℕ) (t : Top) where
 
   -- one entry more
   module _ (next : Next) (e : List Field) (ps : List (List Field)) where
-    ran-bad : entry_in depth t (lookup e) ≡ none → ran next (e ∷ ps) ≡ none
+    ran_bad : entry_in depth t (lookup e) ≡ none → ran next (e ∷ ps) ≡ none
     unfolding ran each
-    ran-bad q = rw q
+    ran_bad q = rw q
 
-    ran-passed : entry_in depth t (lookup e) ≡ some none → ran next (e ∷ ps) ≡ ran next ps
+    ran_passed : entry_in depth t (lookup e) ≡ some none → ran next (e ∷ ps) ≡ ran next ps
     unfolding ran each
-    ran-passed q = rw q (go (each (entry_in depth t) ps))
+    ran_passed q = rw q (go (each (entry_in depth t) ps))
       where
         go : (o : Option (List Update)) → (o >>= λ us. some us) >>= (λ us. need (ordered t next us) (some us)) ≡ o >>= λ us. need (ordered t next us) (some us)
         go none = refl
         go (some us) = refl
 
-    ran-said : (u : Update) → entry_in depth t (lookup e) ≡ some (some u)
+    ran_said : (u : Update) → entry_in depth t (lookup e) ≡ some (some u)
         → ran next (e ∷ ps) ≡ need (eqb t.first 279 || eqb u.place (next_on next u.what)) (ran (next_after next u.what) ps >>= λ us. some (u ∷ us))
     unfolding ran each ordered running
-    ran-said u q = rw q (go (eqb t.first 279) (each (entry_in depth t) ps))
+    ran_said u q = rw q (go (eqb t.first 279) (each (entry_in depth t) ps))
       where
         nothing : (z : Bool) → ◌≡◌ {A = Option (List Update)} none (need z none)
         nothing true = refl
@@ -160,61 +160,61 @@ module _ (depth : ℕ) (t : Top) where
     unfolding outside closing tidy
     again next' us' = rw b
 
-    no-updates : (z : Bool) → ◌≡◌ {A = Option (List Update)} (need z none) none
-    no-updates true = refl
-    no-updates false = refl
+    no_updates : (z : Bool) → ◌≡◌ {A = Option (List Update)} (need z none) none
+    no_updates true = refl
+    no_updates false = refl
 
     -- what the entry says of those that are left
     module _ (ps : List (List Field)) where
-      to-bad : (o : Option (Option Update)) → entry_in depth t (lookup e) ≡ o → o >>= at_next t next ≡ none → ran next (e ∷ ps) ≡ none
+      to_bad : (o : Option (Option Update)) → entry_in depth t (lookup e) ≡ o → o >>= at_next t next ≡ none → ran next (e ∷ ps) ≡ none
       unfolding at_next
-      to-bad none q h = ran-bad next e ps q
-      to-bad (some none) q h = let z : ◌≡◌ {A = ℕ} 0 1 = cc in absurd (omega arith)
-      to-bad (some (some u)) q h = ran-said next e ps u q ∙ go (eqb t.first 279 || eqb u.place (next_on next u.what)) h
+      to_bad none q h = ran_bad next e ps q
+      to_bad (some none) q h = let z : ◌≡◌ {A = ℕ} 0 1 = cc in absurd (omega arith)
+      to_bad (some (some u)) q h = ran_said next e ps u q ∙ go (eqb t.first 279 || eqb u.place (next_on next u.what)) h
         where
           go : (z : Bool) → need z (some (some u)) ≡ none → need z (ran (next_after next u.what) ps >>= λ ws. some (u ∷ ws)) ≡ none
           go true k = let z : ◌≡◌ {A = ℕ} 0 1 = cc in absurd (omega arith)
           go false k = refl
 
-      to-passed : (o : Option (Option Update)) → entry_in depth t (lookup e) ≡ o → o >>= at_next t next ≡ some none → ran next (e ∷ ps) ≡ ran next ps
+      to_passed : (o : Option (Option Update)) → entry_in depth t (lookup e) ≡ o → o >>= at_next t next ≡ some none → ran next (e ∷ ps) ≡ ran next ps
       unfolding at_next
-      to-passed none q h = let z : ◌≡◌ {A = ℕ} 0 1 = cc in absurd (omega arith)
-      to-passed (some none) q h = ran-passed next e ps q
-      to-passed (some (some u)) q h = absurd (go (eqb t.first 279 || eqb u.place (next_on next u.what)) h)
+      to_passed none q h = let z : ◌≡◌ {A = ℕ} 0 1 = cc in absurd (omega arith)
+      to_passed (some none) q h = ran_passed next e ps q
+      to_passed (some (some u)) q h = absurd (go (eqb t.first 279 || eqb u.place (next_on next u.what)) h)
         where
           go : (z : Bool) → need z (some (some u)) ≡ some none → ⊥
           go true k = let z : ◌≡◌ {A = ℕ} 0 1 = cc in omega arith
           go false k = let z : ◌≡◌ {A = ℕ} 0 1 = cc in omega arith
 
-      to-said : (u : Update) (o : Option (Option Update)) → entry_in depth t (lookup e) ≡ o → o >>= at_next t next ≡ some (some u)
+      to_said : (u : Update) (o : Option (Option Update)) → entry_in depth t (lookup e) ≡ o → o >>= at_next t next ≡ some (some u)
           → ran next (e ∷ ps) ≡ ran (next_after next u.what) ps >>= λ ws. some (u ∷ ws)
       unfolding at_next
-      to-said u none q h = let z : ◌≡◌ {A = ℕ} 0 1 = cc in absurd (omega arith)
-      to-said u (some none) q h = let z : ◌≡◌ {A = ℕ} 0 1 = cc in absurd (omega arith)
-      to-said u (some (some v)) q h = ran-said next e ps v q ∙ go (eqb t.first 279 || eqb v.place (next_on next v.what)) h
+      to_said u none q h = let z : ◌≡◌ {A = ℕ} 0 1 = cc in absurd (omega arith)
+      to_said u (some none) q h = let z : ◌≡◌ {A = ℕ} 0 1 = cc in absurd (omega arith)
+      to_said u (some (some v)) q h = ran_said next e ps v q ∙ go (eqb t.first 279 || eqb v.place (next_on next v.what)) h
         where
           go : (z : Bool) → need z (some (some v)) ≡ some (some u)
               → need z (ran (next_after next v.what) ps >>= λ ws. some (v ∷ ws)) ≡ ran (next_after next u.what) ps >>= λ ws. some (u ∷ ws)
           go true k = let p : v ≡ u = cc in rw p
           go false k = let z : ◌≡◌ {A = ℕ} 0 1 = cc in absurd (omega arith)
 
-    pub entry-bad : entry_next depth t next (lookup e) ≡ none → inside more next us e fs ≡ none
+    pub entry_bad : entry_next depth t next (lookup e) ≡ none → inside more next us e fs ≡ none
     unfolding entry_next
-    entry-bad h =
+    entry_bad h =
         let ps = parts t.first fs in
-        ended ∙ rw (to-bad ps (entry_in depth t (lookup e)) refl h) (no-updates (eqb (length ps) more && all_tidy named_tags ours ps))
+        ended ∙ rw (to_bad ps (entry_in depth t (lookup e)) refl h) (no_updates (eqb (length ps) more && all_tidy named_tags ours ps))
 
-    pub entry-passed : entry_next depth t next (lookup e) ≡ some none → inside more next us e fs ≡ outside more next us fs
+    pub entry_passed : entry_next depth t next (lookup e) ≡ some none → inside more next us e fs ≡ outside more next us fs
     unfolding entry_next
-    entry-passed h = ended ∙ rw (to-passed (parts t.first fs) (entry_in depth t (lookup e)) refl h) (sym (again next us))
+    entry_passed h = ended ∙ rw (to_passed (parts t.first fs) (entry_in depth t (lookup e)) refl h) (sym (again next us))
 
-    pub entry-said : (u : Update) → entry_next depth t next (lookup e) ≡ some (some u)
+    pub entry_said : (u : Update) → entry_next depth t next (lookup e) ≡ some (some u)
         → inside more next us e fs ≡ outside more (next_after next u.what) (us ++ (u ∷ [])) fs
     unfolding entry_next
-    entry-said u h =
+    entry_said u h =
         let ps = parts t.first fs in
         let next' = next_after next u.what in
-        ended ∙ rw (to-said ps u (entry_in depth t (lookup e)) refl h) (ap (need (eqb (length ps) more && all_tidy named_tags ours ps)) (go (ran next' ps)) ∙ sym (again next' (us ++ (u ∷ []))))
+        ended ∙ rw (to_said ps u (entry_in depth t (lookup e)) refl h) (ap (need (eqb (length ps) more && all_tidy named_tags ours ps)) (go (ran next' ps)) ∙ sym (again next' (us ++ (u ∷ []))))
       where
         go : (o : Option (List Update)) → (o >>= λ ws. some (u ∷ ws)) >>= (λ ws. some (us ++ ws)) ≡ o >>= λ ws. some (us ++ (u ∷ []) ++ ws)
         go none = refl

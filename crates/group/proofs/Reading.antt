@@ -11,33 +11,33 @@ use Rattle.message.specs.declared.Reading.{Reading}
 use Rattle.message.specs.declared.Refusal.{Refusal}
 use Rattle.message.specs.declared.Refusal.TheVariants.{BadFields}
 use Rattle.cells.specs.Cells.{update_words}
-use Rattle.cells.proofs.Stores.{behind-sets}
-use Rattle.cells.proofs.Runs.{no-updates}
+use Rattle.cells.proofs.Stores.{behind_sets}
+use Rattle.cells.proofs.Runs.{no_updates}
 use Rattle.position.specs.declared.Top.{Top}
 use Rattle.group.specs.Listed.{answered}
 use Rattle.group.specs.Reads.{Spared, Reads}
 
 -- ---- the run
-pub spared-all : (xs : List ℕ) → Spared xs xs
-spared-all xs = record { size = refl; behind = λ k l. refl }
+pub spared_all : (xs : List ℕ) → Spared xs xs
+spared_all xs = record { size = refl; behind = λ k l. refl }
 
 -- one of 64 entries is written
-pub spared-more : {xs ys zs : List ℕ} (n : ℕ) (u : Update) → n < 64 → zs ≡ sets ys (n * 9) (update_words u) → Spared xs ys → Spared xs zs
-spared-more {ys = ys} n u l e h =
+pub spared_more : {xs ys zs : List ℕ} (n : ℕ) (u : Update) → n < 64 → zs ≡ sets ys (n * 9) (update_words u) → Spared xs ys → Spared xs zs
+spared_more {ys = ys} n u l e h =
     let ws = update_words u in
-    rw e (record { size = length-sets ys (n * 9) ws ∙ h.size; behind = λ k g. behind-sets 0 ys (n * 9) ws k (omega arith) ∙ h.behind k g })
+    rw e (record { size = length-sets ys (n * 9) ws ∙ h.size; behind = λ k g. behind_sets 0 ys (n * 9) ws k (omega arith) ∙ h.behind k g })
 
 -- ---- the reading
-pub refused-reads : (why : Refusal) (xs ys : List ℕ) (r : Reading) → r ≡ (told (refused why)).reading → Spared xs ys
+pub refused_reads : (why : Refusal) (xs ys : List ℕ) (r : Reading) → r ≡ (told (refused why)).reading → Spared xs ys
     → Reads (told (refused why)) r xs ys
 unfolding told
-refused-reads why xs ys r e l = rw e (record { reading = refl; entries = no-updates ys; run = l })
+refused_reads why xs ys r e l = rw e (record { reading = refl; entries = no_updates ys; run = l })
 
 pub reads_as : {t u : Told} {r : Reading} {xs ys : List ℕ} → Reads t r xs ys → t ≡ u → Reads u r xs ys
 reads_as h q =
     record { reading = h.reading ∙ ap (λ (t : Told). t.reading) q; entries = h.entries ∙ ap (λ (t : Told). t.entries) q; run = h.run }
 
 -- a refusal is an answer without entries
-pub none-answered : (t : Top) → told (refused BadFields) ≡ answered t none
+pub none_answered : (t : Top) → told (refused BadFields) ≡ answered t none
 unfolding answered
-none-answered t = refl
+none_answered t = refl

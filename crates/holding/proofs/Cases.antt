@@ -3,8 +3,8 @@ use mathlib.Core.Path.{◌≡◌, refl}
 use lib.IntN.{pos, negsuc}
 use Rattle.holding.specs.Prices.{hundredths, held_of, held_top}
 
-pub a-price : hundredths 2401 ≡ pos 2401000000
-a-price = refl
+pub a_price : hundredths 2401 ≡ pos 2401000000
+a_price = refl
 
 pub above : held_of (pos 2401000000) ≡ 4802000000
 unfolding held_of

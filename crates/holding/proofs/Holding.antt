@@ -13,20 +13,20 @@ use mir.Val.{SFits, to_z, of_z}
 use mir.Facts.{to_z-of_z, to_z_pos}
 use Rattle.holding.specs.Prices.{held_of, of_held, top, held_top}
 
-half-even : (n : ℕ) → n * 2 / 2 ≡ n
-half-even n = omega arith
+half_even : (n : ℕ) → n * 2 / 2 ≡ n
+half_even n = omega arith
 
-half-odd : (n : ℕ) → (n * 2 + 1) / 2 ≡ n
-half-odd n = omega arith
+half_odd : (n : ℕ) → (n * 2 + 1) / 2 ≡ n
+half_odd n = omega arith
 
-pub of-held-of : (p : ℤ) → of_held (held_of p) ≡ p
+pub of_held_of : (p : ℤ) → of_held (held_of p) ≡ p
 unfolding held_of of_held
-of-held-of (pos n) = rw (eq-eqb (n * 2 % 2) 0 (omega arith), half-even)
-of-held-of (negsuc n) = rw (ne_eqb ((n * 2 + 1) % 2) 0 (λ e. omega arith), half-odd)
+of_held_of (pos n) = rw (eq-eqb (n * 2 % 2) 0 (omega arith), half_even)
+of_held_of (negsuc n) = rw (ne_eqb ((n * 2 + 1) % 2) 0 (λ e. omega arith), half_odd)
 
-pub held-of-held : (w : ℕ) → held_of (of_held w) ≡ w
+pub held_of_held : (w : ℕ) → held_of (of_held w) ≡ w
 unfolding held_of of_held
-held-of-held w = go (eqb (w % 2) 0) refl
+held_of_held w = go (eqb (w % 2) 0) refl
   where
     go : (t : Bool) → eqb (w % 2) 0 ≡ t → held_of (cond t (pos (w / 2)) (negsuc (w / 2))) ≡ w
     go true e = let q = eqb-true (w % 2) 0 e in omega arith
@@ -38,9 +38,9 @@ unfolding held_of
 held_small (pos n) h = omega arith
 held_small (negsuc n) h = omega arith
 
-pub small-held : (w : ℕ) → w ≤ held_top → nat_abs (of_held w) < top
+pub small_held : (w : ℕ) → w ≤ held_top → nat_abs (of_held w) < top
 unfolding of_held
-small-held w h = go (eqb (w % 2) 0) refl
+small_held w h = go (eqb (w % 2) 0) refl
   where
     go : (t : Bool) → eqb (w % 2) 0 ≡ t → nat_abs (cond t (pos (w / 2)) (negsuc (w / 2))) < top
     go true e = omega arith
@@ -55,27 +55,27 @@ module _ (p : ℤ) (fits : SFits w64 p) (minus : lt_z (to_z w64 (of_z w64 p)) (p
   flip (pos n) h = absurd (omega (arith, ltb-true n 0 h))
   flip (negsuc n) h = flipped n
 
-  pub flip-same : negsuc 0 -ℤ to_z w64 (of_z w64 p) ≡ pos (mag p)
-  flip-same = rw (to_z-of_z fits) (flip p (rw (to_z-of_z fits) at minus))
+  pub flip_same : negsuc 0 -ℤ to_z w64 (of_z w64 p) ≡ pos (mag p)
+  flip_same = rw (to_z-of_z fits) (flip p (rw (to_z-of_z fits) at minus))
 
-  pub flip-fits : SFits w64 (negsuc 0 -ℤ to_z w64 (of_z w64 p))
-  flip-fits = rw flip-same (record { sfits = fits.sfits })
+  pub flip_fits : SFits w64 (negsuc 0 -ℤ to_z w64 (of_z w64 p))
+  flip_fits = rw flip_same (record { sfits = fits.sfits })
 
-  pub flip-back : to_z w64 (of_z w64 (negsuc 0 -ℤ to_z w64 (of_z w64 p))) ≡ pos (mag p)
-  flip-back = ap (λ (z : ℤ). to_z w64 (of_z w64 z)) flip-same ∙ to_z_pos w64 fits.sfits
+  pub flip_back : to_z w64 (of_z w64 (negsuc 0 -ℤ to_z w64 (of_z w64 p))) ≡ pos (mag p)
+  flip_back = ap (λ (z : ℤ). to_z w64 (of_z w64 z)) flip_same ∙ to_z_pos w64 fits.sfits
 
-  pub held-minus : held_of p ≡ mag p * 2 + 1
+  pub held_minus : held_of p ≡ mag p * 2 + 1
   unfolding held_of
-  held-minus = go p (rw (to_z-of_z fits) at minus)
+  held_minus = go p (rw (to_z-of_z fits) at minus)
     where
       go : (q : ℤ) → lt_z q (pos 0) ≡ true → held_of q ≡ mag q * 2 + 1
       go (pos n) h = absurd (omega (arith, ltb-true n 0 h))
       go (negsuc n) h = refl
 
-pub held-plus : (p : ℤ) → lt_z p (pos 0) ≡ false → (p ≡ pos (mag p)) × (held_of p ≡ mag p * 2)
+pub held_plus : (p : ℤ) → lt_z p (pos 0) ≡ false → (p ≡ pos (mag p)) × (held_of p ≡ mag p * 2)
 unfolding held_of
-held-plus (pos n) h = (refl, refl)
-held-plus (negsuc n) h = absurd (false≢true (sym h))
+held_plus (pos n) h = (refl, refl)
+held_plus (negsuc n) h = absurd (false≢true (sym h))
 
 -- a negative number from its half
 pub down : (n : ℕ) → n < 2 ^ 63 → negsuc 0 -ℤ pos n ≡ negsuc n
@@ -90,9 +90,9 @@ module _ (w : ℕ) (small : w / 2 < 2 ^ 63) where
   odd_is : negsuc 0 -ℤ to_z w64 (w / 2) ≡ negsuc (w / 2)
   odd_is = rw (to_z_pos w64 small) (down (w / 2) small)
 
-  pub odd-fits : SFits w64 (negsuc 0 -ℤ to_z w64 (w / 2))
-  odd-fits = rw odd_is (record { sfits = small })
+  pub odd_fits : SFits w64 (negsuc 0 -ℤ to_z w64 (w / 2))
+  odd_fits = rw odd_is (record { sfits = small })
 
   pub odd : (w % 2 ≡ 0 → ⊥) → to_z w64 (of_z w64 (negsuc 0 -ℤ to_z w64 (w / 2))) ≡ of_held w
   unfolding of_held
-  odd e = rw (ne_eqb (w % 2) 0 e) (to_z-of_z odd-fits ∙ odd_is)
+  odd e = rw (ne_eqb (w % 2) 0 e) (to_z-of_z odd_fits ∙ odd_is)

@@ -24,27 +24,27 @@ use Rattle.lead.specs.Messages.{other_of, changes_of, head_of, snapshot_of, or_b
 use Rattle.fields.specs.Messages.{framed_as, message_in}
 use Rattle.inrange.specs.InRange.{ReadInRange}
 use Rattle.inrange.proofs.Okay.{okay, bind, needed, and_both}
-use Rattle.inrange.proofs.Entries.{whole-okay, heard-okay, instrument-okay, x-okay, w-okay}
+use Rattle.inrange.proofs.Entries.{whole_okay, heard_okay, instrument_okay, x_okay, w_okay}
 
 -- ---- all entries
-each-fine : (q : Update → Bool) (f : Values → Option (Option Update)) → ((v : Values) → okay (okay q) (f v) ≡ true)
+each_fine : (q : Update → Bool) (f : Values → Option (Option Update)) → ((v : Values) → okay (okay q) (f v) ≡ true)
     → (es : List (List Field)) → okay (all q) (each f es) ≡ true
 unfolding each
-each-fine q f h [] = refl
-each-fine q f h (e ∷ es) =
+each_fine q f h [] = refl
+each_fine q f h (e ∷ es) =
     bind (okay q) (all q) (f (lookup e)) _ (h (lookup e))
-    (λ u hu. bind (all q) (all q) (each f es) _ (each-fine q f h es) (λ us hus. go u us hu hus))
+    (λ u hu. bind (all q) (all q) (each f es) _ (each_fine q f h es) (λ us hus. go u us hu hus))
   where
     go : (u : Option Update) (us : List Update) → okay q u ≡ true → all q us ≡ true → all q (onto u us) ≡ true
     go none us a b = b
     go (some u) us a b = rw (a, b)
 
-each-few : (f : Values → Option (Option Update)) (n : ℕ) (es : List (List Field)) → length es ≤ n → okay (λ us. leb (length us) n) (each f es) ≡ true
+each_few : (f : Values → Option (Option Update)) (n : ℕ) (es : List (List Field)) → length es ≤ n → okay (λ us. leb (length us) n) (each f es) ≡ true
 unfolding each
-each-few f n [] l = le-leb 0 n (omega arith)
-each-few f n (e ∷ es) l =
+each_few f n [] l = le-leb 0 n (omega arith)
+each_few f n (e ∷ es) l =
     bind (λ u. true) (λ us. leb (length us) n) (f (lookup e)) _ (any (f (lookup e)))
-    (λ u hu. bind (λ us. leb (length us) (length es)) (λ us. leb (length us) n) (each f es) _ (each-few f (length es) es (omega arith))
+    (λ u hu. bind (λ us. leb (length us) (length es)) (λ us. leb (length us) n) (each f es) _ (each_few f (length es) es (omega arith))
     (λ us h. go u us (leb-true (length us) (length es) h)))
   where
     any : (o : Option (Option Update)) → okay (λ u. true) o ≡ true
@@ -56,12 +56,12 @@ each-few f n (e ∷ es) l =
     go (some u) us k = le-leb (suc (length us)) n (omega arith)
 
 -- ---- the group has at most 64 entries
-group-few : (first : ℕ) (ours : List ℕ) (body : List Field) → okay (λ es. leb (length es) 64) (group_of first ours body) ≡ true
+group_few : (first : ℕ) (ours : List ℕ) (body : List Field) → okay (λ es. leb (length es) 64) (group_of first ours body) ≡ true
 unfolding group_of
-group-few first ours body =
+group_few first ours body =
     let ps = parts first (past 268 body) in
     let rest = tidy named_tags [] (up_to first (past 268 body)) && all_tidy named_tags ours ps in
-    bind (within 0 64) (λ es. leb (length es) 64) (count_at (lookup body)) _ (whole-okay 268 2 0 64 (lookup body))
+    bind (within 0 64) (λ es. leb (length es) 64) (count_at (lookup body)) _ (whole_okay 268 2 0 64 (lookup body))
     (λ n hn. needed (λ es. leb (length es) 64) (eqb (length ps) n && rest) (some ps)
     (λ h. let e = eqb-true (length ps) n (both (eqb (length ps) n) rest h).0 in
     rw e (both (leb 0 n) (leb n 64) hn).1))
@@ -73,70 +73,70 @@ fits q us = leb (length us) 64 && all q us
 each_fits : (q : Update → Bool) (f : Values → Option (Option Update)) → ((v : Values) → okay (okay q) (f v) ≡ true)
     → (es : List (List Field)) → leb (length es) 64 ≡ true → okay (fits q) (each f es) ≡ true
 each_fits q f h es l =
-    and_both (λ us. leb (length us) 64) (all q) (each f es) (each-few f 64 es (leb-true (length es) 64 l)) (each-fine q f h es)
+    and_both (λ us. leb (length us) 64) (all q) (each f es) (each_few f 64 es (leb-true (length es) 64 l)) (each_fine q f h es)
 
-x-fine : (depth : ℕ) (body : List Field) → okay (message_fine depth) (changes_of depth body) ≡ true
+x_fine : (depth : ℕ) (body : List Field) → okay (message_fine depth) (changes_of depth body) ≡ true
 unfolding changes_of message_fine
-x-fine depth body =
+x_fine depth body =
     let v = lookup (up_to 268 body) in
     needed (message_fine depth) (tidy named_tags head_x (up_to 268 body)) _
-    (λ _. bind (within 1 most_number) (message_fine depth) (seq_at v) _ (whole-okay 34 10 1 most_number v)
-    (λ n hn. bind moment_fine (message_fine depth) (heard_at v) _ (heard-okay v)
-    (λ at ha. bind (λ es. leb (length es) 64) (message_fine depth) (group_of 279 entry_x body) _ (group-few 279 entry_x body)
-    (λ es he. bind (fits (said_fine depth)) (message_fine depth) (each (entry_in_x depth) es) _ (each_fits (said_fine depth) (entry_in_x depth) (x-okay depth) es he)
+    (λ _. bind (within 1 most_number) (message_fine depth) (seq_at v) _ (whole_okay 34 10 1 most_number v)
+    (λ n hn. bind moment_fine (message_fine depth) (heard_at v) _ (heard_okay v)
+    (λ at ha. bind (λ es. leb (length es) 64) (message_fine depth) (group_of 279 entry_x body) _ (group_few 279 entry_x body)
+    (λ es he. bind (fits (said_fine depth)) (message_fine depth) (each (entry_in_x depth) es) _ (each_fits (said_fine depth) (entry_in_x depth) (x_okay depth) es he)
     (λ us hu. rw (hn, ha) hu)))))
 
 -- ---- W
-head-fine : (v : Values) → okay head_fine (head_of v) ≡ true
+head_fine_lem : (v : Values) → okay head_fine (head_of v) ≡ true
 unfolding head_of head_fine
-head-fine v =
-    bind (within 1 most_number) head_fine (seq_at v) _ (whole-okay 34 10 1 most_number v)
-    (λ n hn. bind moment_fine head_fine (heard_at v) _ (heard-okay v)
-    (λ at ha. bind id_fine head_fine (instrument_at v) _ (instrument-okay v)
-    (λ id hi. bind (within 0 most_number) head_fine (last_at v) _ (whole-okay 369 10 0 most_number v)
-    (λ last hl. bind (within 1 most_number) head_fine (loops_at v) _ (whole-okay 911 10 1 most_number v)
+head_fine_lem v =
+    bind (within 1 most_number) head_fine (seq_at v) _ (whole_okay 34 10 1 most_number v)
+    (λ n hn. bind moment_fine head_fine (heard_at v) _ (heard_okay v)
+    (λ at ha. bind id_fine head_fine (instrument_at v) _ (instrument_okay v)
+    (λ id hi. bind (within 0 most_number) head_fine (last_at v) _ (whole_okay 369 10 0 most_number v)
+    (λ last hl. bind (within 1 most_number) head_fine (loops_at v) _ (whole_okay 911 10 1 most_number v)
     (λ loops ho. rw (hn, ha, hi, (both (leb 0 last) (leb last most_number) hl).1, ho))))))
 
-w-fine : (depth : ℕ) (body : List Field) → okay (message_fine depth) (snapshot_of depth body) ≡ true
+w_fine : (depth : ℕ) (body : List Field) → okay (message_fine depth) (snapshot_of depth body) ≡ true
 unfolding snapshot_of message_fine
-w-fine depth body =
+w_fine depth body =
     let v = lookup (up_to 268 body) in
     needed (message_fine depth) (tidy named_tags head_w (up_to 268 body)) _
-    (λ _. bind head_fine (message_fine depth) (head_of v) _ (head-fine v)
-    (λ h hh. bind (λ es. leb (length es) 64) (message_fine depth) (group_of 269 entry_w body) _ (group-few 269 entry_w body)
-    (λ es he. bind (fits (shown_fine depth)) (message_fine depth) (each (entry_in_w depth h.id) es) _ (each_fits (shown_fine depth) (entry_in_w depth h.id) (w-okay depth h.id) es he)
+    (λ _. bind head_fine (message_fine depth) (head_of v) _ (head_fine_lem v)
+    (λ h hh. bind (λ es. leb (length es) 64) (message_fine depth) (group_of 269 entry_w body) _ (group_few 269 entry_w body)
+    (λ es he. bind (fits (shown_fine depth)) (message_fine depth) (each (entry_in_w depth h.id) es) _ (each_fits (shown_fine depth) (entry_in_w depth h.id) (w_okay depth h.id) es he)
     (λ us hu. needed (message_fine depth) (running firsts us) (some (snapshot h us)) (λ _. rw hh hu)))))
 
 -- ---- the others
-o-fine : (depth : ℕ) (body : List Field) → okay (message_fine depth) (other_of body) ≡ true
+o_fine : (depth : ℕ) (body : List Field) → okay (message_fine depth) (other_of body) ≡ true
 unfolding other_of message_fine
-o-fine depth body =
+o_fine depth body =
     let v = lookup (up_to 268 body) in
     needed (message_fine depth) (tidy other_tags head_x (up_to 268 body) && tidy other_tags [] (past 268 body)) _
-    (λ _. bind (within 1 most_number) (message_fine depth) (seq_at v) _ (whole-okay 34 10 1 most_number v)
-    (λ n hn. bind moment_fine (message_fine depth) (heard_at v) _ (heard-okay v) (λ at ha. rw (hn, ha))))
+    (λ _. bind (within 1 most_number) (message_fine depth) (seq_at v) _ (whole_okay 34 10 1 most_number v)
+    (λ n hn. bind moment_fine (message_fine depth) (heard_at v) _ (heard_okay v) (λ at ha. rw (hn, ha))))
 
 -- ---- the whole message
-typed-fine : (depth kind : ℕ) (body : List Field) → okay (message_fine depth) (typed_as depth kind body) ≡ true
+typed_fine : (depth kind : ℕ) (body : List Field) → okay (message_fine depth) (typed_as depth kind body) ≡ true
 unfolding typed_as
-typed-fine depth kind body = go (eqb kind 88) (eqb kind 87)
+typed_fine depth kind body = go (eqb kind 88) (eqb kind 87)
   where
     go : (x w : Bool) → okay (message_fine depth) (cond x (changes_of depth body) (cond w (snapshot_of depth body) (other_of body))) ≡ true
-    go true w = x-fine depth body
-    go false true = w-fine depth body
-    go false false = o-fine depth body
+    go true w = x_fine depth body
+    go false true = w_fine depth body
+    go false false = o_fine depth body
 
-or-bad : (depth : ℕ) (o : Option Message) → okay (message_fine depth) o ≡ true → message_fine depth (or_bad_fields o) ≡ true
+or_bad : (depth : ℕ) (o : Option Message) → okay (message_fine depth) o ≡ true → message_fine depth (or_bad_fields o) ≡ true
 unfolding or_bad_fields message_fine
-or-bad depth none h = refl
-or-bad depth (some m) h = h
+or_bad depth none h = refl
+or_bad depth (some m) h = h
 
-pub read-in-range : ReadInRange
+pub read_in_range : ReadInRange
 unfolding message_in message_fine
-read-in-range depth s = go (frame_of s)
+read_in_range depth s = go (frame_of s)
   where
     go : (f : Framed) → message_fine depth (framed_as depth s f) ≡ true
-    go (Framed.Is kind from) = or-bad depth (typed_as depth kind (body_of s)) (typed-fine depth kind (body_of s))
+    go (Framed.Is kind from) = or_bad depth (typed_as depth kind (body_of s)) (typed_fine depth kind (body_of s))
     go Framed.BadFrame = refl
     go Framed.BadSum = refl
     go Framed.BadType = refl

@@ -18,13 +18,13 @@ use Rattle.message.specs.declared.Verdict.TheVariants.{Numbered, Snapshot}
 use Rattle.chain.specs.Fields.{Field}
 use Rattle.chain.specs.Places.{part, field_at, left}
 use Rattle.chain.specs.declared.Step.{Step}
-use Rattle.chain.proofs.Walk.{left-on, left-no, walked, all_tagged}
+use Rattle.chain.proofs.Walk.{left_on, left_no, walked, all_tagged}
 use Rattle.tags.specs.Tags.{named_tags, other_tags, head_x, head_w, entry_x, entry_w, has, tidy, all_tidy, up_to, past, onward, parts, lookup}
 use Rattle.tags.specs.Slots.{slot_of, below, between, marked, Holds}
 use Rattle.tags.specs.declared.Marks.{Marks}
 use Rattle.values.specs.Values.{◌>>=◌, need, Values, number, seq_at, heard_at, instrument_at, last_at, loops_at}
 use Rattle.entries.specs.Entries.{entry_in_x, entry_in_w}
-use Rattle.entries.proofs.Same.{instrument-same}
+use Rattle.entries.proofs.Same.{instrument_same}
 use Rattle.position.specs.Positions.{firsts, entry_in, Fair}
 use Rattle.group.specs.Groups.{group_of, each, running}
 use Rattle.lead.specs.Messages.{other_of, changes_of, head_of, snapshot_of, or_bad_fields, typed_as}
@@ -33,15 +33,15 @@ use Rattle.lead.specs.Leads.{bare_of, top_x, top_w, counted}
 use Rattle.position.specs.declared.Top.{Top}
 
 -- ---- from 268 on
-counted-by : (depth : ℕ) (t : Top) (n : Number) (gs : List Field)
+counted_by : (depth : ℕ) (t : Top) (n : Number) (gs : List Field)
     → (number n >>= λ k.
     need (eqb (length (parts t.first gs)) k && (tidy named_tags [] (up_to t.first gs) && all_tidy named_tags (between t.low 20) (parts t.first gs)))
     (some (parts t.first gs)))
     >>= (λ es. each (entry_in depth t) es >>= λ us. need (ordered t firsts us) (some us))
     ≡ number n >>= λ k. grouped depth t k gs
 unfolding grouped
-counted-by depth t Number.No gs = refl
-counted-by depth t (Number.Is k) gs =
+counted_by depth t Number.No gs = refl
+counted_by depth t (Number.Is k) gs =
     go (eqb (length (parts t.first gs)) k && (tidy named_tags [] (up_to t.first gs) && all_tidy named_tags (between t.low 20) (parts t.first gs)))
   where
     go : (z : Bool)
@@ -51,24 +51,24 @@ counted-by depth t (Number.Is k) gs =
     go false = refl
 
 -- a group found by its 268 is the group from there on
-no-count : number (ranged_of 2 0 64 []) ≡ none
+no_count : number (ranged_of 2 0 64 []) ≡ none
 unfolding ranged_of whole_of digits_of
-no-count = refl
+no_count = refl
 
-lookup-onward : (fs : List Field) → lookup fs 268 ≡ lookup (onward 268 fs) 268
+lookup_onward : (fs : List Field) → lookup fs 268 ≡ lookup (onward 268 fs) 268
 unfolding lookup onward
-lookup-onward [] = refl
-lookup-onward (f ∷ fs) = go (eqb f.tag 268) refl (lookup-onward fs)
+lookup_onward [] = refl
+lookup_onward (f ∷ fs) = go (eqb f.tag 268) refl (lookup_onward fs)
   where
     go : (z : Bool) → eqb f.tag 268 ≡ z → lookup fs 268 ≡ lookup (onward 268 fs) 268
         → cond z f.text (lookup fs 268) ≡ lookup (cond z (f ∷ fs) (onward 268 fs)) 268
     go true q i = rw q
     go false q i = i
 
-past-onward : (fs : List Field) → past 268 fs ≡ past 268 (onward 268 fs)
+past_onward : (fs : List Field) → past 268 fs ≡ past 268 (onward 268 fs)
 unfolding past onward
-past-onward [] = refl
-past-onward (f ∷ fs) = go (eqb f.tag 268) refl (past-onward fs)
+past_onward [] = refl
+past_onward (f ∷ fs) = go (eqb f.tag 268) refl (past_onward fs)
   where
     go : (z : Bool) → eqb f.tag 268 ≡ z → past 268 fs ≡ past 268 (onward 268 fs)
         → cond z fs (past 268 fs) ≡ past 268 (cond z (f ∷ fs) (onward 268 fs))
@@ -80,10 +80,10 @@ headed : List Field → Bool
 headed [] = true
 headed (f ∷ fs) = eqb f.tag 268
 
-onward-headed : (fs : List Field) → headed (onward 268 fs) ≡ true
+onward_headed : (fs : List Field) → headed (onward 268 fs) ≡ true
 unfolding onward headed
-onward-headed [] = refl
-onward-headed (f ∷ fs) = go (eqb f.tag 268) refl (onward-headed fs)
+onward_headed [] = refl
+onward_headed (f ∷ fs) = go (eqb f.tag 268) refl (onward_headed fs)
   where
     go : (z : Bool) → eqb f.tag 268 ≡ z → headed (onward 268 fs) ≡ true → headed (cond z (f ∷ fs) (onward 268 fs)) ≡ true
     go true q i = q
@@ -95,48 +95,48 @@ module _ (depth : ℕ) (t : Top) where
 
   group_at : (gs : List Field) → headed gs ≡ true → listing (group_of t.first (between t.low 20) gs) ≡ counted depth t gs
   unfolding listing headed group_of counted lookup past
-  group_at [] h = rw no-count
-  group_at (f ∷ gs) h = rw h (counted-by depth t (ranged_of 2 0 64 f.text) gs)
+  group_at [] h = rw no_count
+  group_at (f ∷ gs) h = rw h (counted_by depth t (ranged_of 2 0 64 f.text) gs)
 
-  group-onward : (fs : List Field) → group_of t.first (between t.low 20) fs ≡ group_of t.first (between t.low 20) (onward 268 fs)
+  group_onward : (fs : List Field) → group_of t.first (between t.low 20) fs ≡ group_of t.first (between t.low 20) (onward 268 fs)
   unfolding group_of
-  group-onward fs = rw (lookup-onward fs, past-onward fs)
+  group_onward fs = rw (lookup_onward fs, past_onward fs)
 
-  pub group-from : (fs : List Field) → listing (group_of t.first (between t.low 20) fs) ≡ counted depth t (onward 268 fs)
-  group-from fs = ap listing (group-onward fs) ∙ group_at (onward 268 fs) (onward-headed fs)
+  pub group_from : (fs : List Field) → listing (group_of t.first (between t.low 20) fs) ≡ counted depth t (onward 268 fs)
+  group_from fs = ap listing (group_onward fs) ∙ group_at (onward 268 fs) (onward_headed fs)
 
 -- the group by the field at a place
 module _ (s : List ℕ) (start depth : ℕ) (t : Top) where
-  pub no-group : length s ≤ start → counted depth t (left s start) ≡ none
+  pub no_group : length s ≤ start → counted depth t (left s start) ≡ none
   unfolding counted
-  no-group l = rw (walked s start l)
+  no_group l = rw (walked s start l)
 
   -- bytes that are no field: no bytes are no number
-  pub torn-count : start < length s → field_at s start ≡ Step.No → counted depth t (left s start) ≡ none
+  pub torn_count : start < length s → field_at s start ≡ Step.No → counted depth t (left s start) ≡ none
   unfolding counted
-  torn-count l e = rw (left-no s start l e, no-count)
+  torn_count l e = rw (left_no s start l e, no_count)
 
   module _ (tag from to : ℕ) (l : start < length s) (step : field_at s start ≡ Step.Is tag from to) where
-    pub bad-count : ranged_of 2 0 64 (part from to s) ≡ Number.No → counted depth t (left s start) ≡ none
+    pub bad_count : ranged_of 2 0 64 (part from to s) ≡ Number.No → counted depth t (left s start) ≡ none
     unfolding counted
-    bad-count e = rw (left-on s start l step, e)
+    bad_count e = rw (left_on s start l step, e)
 
-    pub good-count : (n : ℕ) → ranged_of 2 0 64 (part from to s) ≡ Number.Is n → counted depth t (left s start) ≡ grouped depth t n (left s (to + 1))
+    pub good_count : (n : ℕ) → ranged_of 2 0 64 (part from to s) ≡ Number.Is n → counted depth t (left s start) ≡ grouped depth t n (left s (to + 1))
     unfolding counted
-    good-count n e = rw (left-on s start l step, e)
+    good_count n e = rw (left_on s start l step, e)
 
 -- ---- refusals
-pub refused-by : (o : Option Message) → o ≡ none → told (refused BadFields) ≡ told (or_bad_fields o)
+pub refused_by_lem : (o : Option Message) → o ≡ none → told (refused BadFields) ≡ told (or_bad_fields o)
 unfolding or_bad_fields
-refused-by o q = rw q
+refused_by_lem o q = rw q
 
-not-read : (z : Bool) {A : Type 0} (o : Option A) → o ≡ none → need z o ≡ none
-not-read true o q = q
-not-read false o q = refl
+not_read : (z : Bool) {A : Type 0} (o : Option A) → o ≡ none → need z o ≡ none
+not_read true o q = q
+not_read false o q = refl
 
 -- ---- what stands before 268 in an X
-abbrev x-top : ℕ → ℕ → Top
-x-top n at = record { verdict = Numbered; first = 279; low = 8; number = n; heard = at; id = 0; last = 0; loops = 0 }
+abbrev x_top : ℕ → ℕ → Top
+x_top n at = record { verdict = Numbered; first = 279; low = 8; number = n; heard = at; id = 0; last = 0; loops = 0 }
 
 pub record TopX (v : Values) (t : Top) : Type 0 where
   pub n : ℕ
@@ -145,73 +145,73 @@ pub record TopX (v : Values) (t : Top) : Type 0 where
   pub heard : heard_at v ≡ some at
   pub same : t ≡ record { verdict = Numbered; first = 279; low = 8; number = n; heard = at; id = 0; last = 0; loops = 0 }
 
-pub is-top-x : (v : Values) {t : Top} → top_x v ≡ some t → TopX v t
+pub is_top_x : (v : Values) {t : Top} → top_x v ≡ some t → TopX v t
 unfolding top_x
-is-top-x v {t} = go (seq_at v) (heard_at v) refl refl
+is_top_x v {t} = go (seq_at v) (heard_at v) refl refl
   where
-    go : (a b : Option ℕ) → seq_at v ≡ a → heard_at v ≡ b → a >>= (λ n. b >>= λ at. some (x-top n at)) ≡ some t → TopX v t
+    go : (a b : Option ℕ) → seq_at v ≡ a → heard_at v ≡ b → a >>= (λ n. b >>= λ at. some (x_top n at)) ≡ some t → TopX v t
     go none b p q e = let z : ◌≡◌ {A = ℕ} 0 1 = cc in absurd (omega arith)
     go (some n) none p q e = let z : ◌≡◌ {A = ℕ} 0 1 = cc in absurd (omega arith)
     go (some n) (some at) p q e = record { n = n; at = at; seq = p; heard = q; same = cc }
 
-x-none : {A : Type 0} (v : Values) (k : ℕ → ℕ → Option A) → top_x v ≡ none → seq_at v >>= (λ n. heard_at v >>= λ at. k n at) ≡ none
+x_none : {A : Type 0} (v : Values) (k : ℕ → ℕ → Option A) → top_x v ≡ none → seq_at v >>= (λ n. heard_at v >>= λ at. k n at) ≡ none
 unfolding top_x
-x-none {A} v k = go (seq_at v) (heard_at v)
+x_none {A} v k = go (seq_at v) (heard_at v)
   where
-    go : (a b : Option ℕ) → a >>= (λ n. b >>= λ at. some (x-top n at)) ≡ none → a >>= (λ n. b >>= λ at. k n at) ≡ none
+    go : (a b : Option ℕ) → a >>= (λ n. b >>= λ at. some (x_top n at)) ≡ none → a >>= (λ n. b >>= λ at. k n at) ≡ none
     go none b e = refl
     go (some n) none e = refl
     go (some n) (some at) e = let z : ◌≡◌ {A = ℕ} 0 1 = cc in absurd (omega arith)
 
-pub fair-x : (v : Values) (t : Top) → TopX v t → Fair t
+pub fair_x : (v : Values) (t : Top) → TopX v t → Fair t
 unfolding has between
-fair-x v t p = rw p.same (refl, refl)
+fair_x v t p = rw p.same (refl, refl)
 
 -- marks and fields say the same of it
-pub top-x-same : (named : ℕ) (s : List ℕ) (m : Marks) (fs : List Field) → 6 ≤ named → Holds named s m fs → top_x (marked s m) ≡ top_x (lookup fs)
+pub top_x_same : (named : ℕ) (s : List ℕ) (m : Marks) (fs : List Field) → 6 ≤ named → Holds named s m fs → top_x (marked s m) ≡ top_x (lookup fs)
 unfolding top_x slot_of
-top-x-same named s m fs l h = rw (h.text 34 (omega arith), h.text 52 (omega arith))
+top_x_same named s m fs l h = rw (h.text 34 (omega arith), h.text 52 (omega arith))
 
 -- ---- X
 module _ (depth : ℕ) (fs : List Field) where
   abbrev v : Values
   v = lookup (up_to 268 fs)
 
-  pub x-untidy : tidy (below 21) (between 4 6) (up_to 268 fs) ≡ false → changes_of depth fs ≡ none
+  pub x_untidy : tidy (below 21) (between 4 6) (up_to 268 fs) ≡ false → changes_of depth fs ≡ none
   unfolding changes_of below between
-  x-untidy h = rw h
+  x_untidy h = rw h
 
-  pub x-no-top : top_x v ≡ none → changes_of depth fs ≡ none
+  pub x_no_top : top_x v ≡ none → changes_of depth fs ≡ none
   unfolding changes_of
-  x-no-top h =
-      not-read (tidy named_tags head_x (up_to 268 fs))
+  x_no_top h =
+      not_read (tidy named_tags head_x (up_to 268 fs))
       (seq_at v >>= λ n. heard_at v >>= λ at. group_of 279 entry_x fs >>= λ es. each (entry_in_x depth) es >>= λ us. some (numbered n at us))
-      (x-none v (λ n at. group_of 279 entry_x fs >>= λ es. each (entry_in_x depth) es >>= λ us. some (numbered n at us)) h)
+      (x_none v (λ n at. group_of 279 entry_x fs >>= λ es. each (entry_in_x depth) es >>= λ us. some (numbered n at us)) h)
 
-  x-answer : (n at : ℕ) (o : Option (List (List Field)))
-      → told (or_bad_fields (o >>= λ es. each (entry_in_x depth) es >>= λ us. some (numbered n at us))) ≡ answered (x-top n at) (listing depth (x-top n at) o)
+  x_answer : (n at : ℕ) (o : Option (List (List Field)))
+      → told (or_bad_fields (o >>= λ es. each (entry_in_x depth) es >>= λ us. some (numbered n at us))) ≡ answered (x_top n at) (listing depth (x_top n at) o)
   unfolding or_bad_fields answered listing entry_in ordered told
-  x-answer n at none = refl
-  x-answer n at (some es) = go (each (entry_in_x depth) es)
+  x_answer n at none = refl
+  x_answer n at (some es) = go (each (entry_in_x depth) es)
     where
-      go : (r : Option (List Update)) → told (or_bad_fields (r >>= λ us. some (numbered n at us))) ≡ answered (x-top n at) (r >>= λ us. some us)
+      go : (r : Option (List Update)) → told (or_bad_fields (r >>= λ us. some (numbered n at us))) ≡ answered (x_top n at) (r >>= λ us. some us)
       go none = refl
       go (some us) = refl
 
-  x-told : tidy (below 21) (between 4 6) (up_to 268 fs) ≡ true → (t : Top) → TopX v t
+  x_told : tidy (below 21) (between 4 6) (up_to 268 fs) ≡ true → (t : Top) → TopX v t
       → told (or_bad_fields (changes_of depth fs)) ≡ answered t (counted depth t (onward 268 fs))
   unfolding changes_of below between
-  x-told h t p =
+  x_told h t p =
       let q = p.same in
-      rw (h, p.seq, p.heard, q) (x-answer p.n p.at (group_of 279 entry_x fs) ∙ ap (answered (x-top p.n p.at)) (group-from depth (x-top p.n p.at) fs))
+      rw (h, p.seq, p.heard, q) (x_answer p.n p.at (group_of 279 entry_x fs) ∙ ap (answered (x_top p.n p.at)) (group_from depth (x_top p.n p.at) fs))
 
-  pub x-is : tidy (below 21) (between 4 6) (up_to 268 fs) ≡ true → (t : Top) → TopX v t → (rest : List Field) → rest ≡ onward 268 fs
+  pub x_is : tidy (below 21) (between 4 6) (up_to 268 fs) ≡ true → (t : Top) → TopX v t → (rest : List Field) → rest ≡ onward 268 fs
       → answered t (counted depth t rest) ≡ told (or_bad_fields (changes_of depth fs))
-  x-is h t p rest q = ap (λ (gs : List Field). answered t (counted depth t gs)) q ∙ sym (x-told h t p)
+  x_is h t p rest q = ap (λ (gs : List Field). answered t (counted depth t gs)) q ∙ sym (x_told h t p)
 
 -- ---- what stands before 268 in a W
-abbrev w-top : Head → Top
-w-top h =
+abbrev w_top : Head → Top
+w_top h =
     record {
       verdict = Snapshot;
       first = 269;
@@ -239,7 +239,7 @@ pub record TopW (v : Values) (t : Top) : Type 0 where
 
 -- the two ways to read it
 heads : (v : Values) (a b c d e : Option ℕ) → seq_at v ≡ a → heard_at v ≡ b → instrument_at v ≡ c → last_at v ≡ d → loops_at v ≡ e
-    → top_w v ≡ head_of v >>= λ h. some (w-top h)
+    → top_w v ≡ head_of v >>= λ h. some (w_top h)
 unfolding top_w top_x head_of
 heads v none b c d e p q r s u = rw p
 heads v (some n) none c d e p q r s u = rw (p, q)
@@ -248,33 +248,33 @@ heads v (some n) (some at) (some id) none e p q r s u = rw (p, q, r, s)
 heads v (some n) (some at) (some id) (some last) none p q r s u = rw (p, q, r, s, u)
 heads v (some n) (some at) (some id) (some last) (some loops) p q r s u = rw (p, q, r, s, u)
 
-top_head : (v : Values) → top_w v ≡ head_of v >>= λ h. some (w-top h)
+top_head : (v : Values) → top_w v ≡ head_of v >>= λ h. some (w_top h)
 top_head v = heads v (seq_at v) (heard_at v) (instrument_at v) (last_at v) (loops_at v) refl refl refl refl refl
 
-pub is-top-w : (v : Values) {t : Top} → top_w v ≡ some t → TopW v t
-is-top-w v {t} e = go (head_of v) refl (sym (top_head v) ∙ e)
+pub is_top_w : (v : Values) {t : Top} → top_w v ≡ some t → TopW v t
+is_top_w v {t} e = go (head_of v) refl (sym (top_head v) ∙ e)
   where
-    go : (o : Option Head) → head_of v ≡ o → o >>= (λ h. some (w-top h)) ≡ some t → TopW v t
+    go : (o : Option Head) → head_of v ≡ o → o >>= (λ h. some (w_top h)) ≡ some t → TopW v t
     go none q h = let z : ◌≡◌ {A = ℕ} 0 1 = cc in absurd (omega arith)
     go (some h) q k = record { head = h; read = q; same = cc }
 
-no-head : (v : Values) → top_w v ≡ none → head_of v ≡ none
-no-head v e = go (head_of v) (sym (top_head v) ∙ e)
+no_head : (v : Values) → top_w v ≡ none → head_of v ≡ none
+no_head v e = go (head_of v) (sym (top_head v) ∙ e)
   where
-    go : (o : Option Head) → o >>= (λ h. some (w-top h)) ≡ none → o ≡ none
+    go : (o : Option Head) → o >>= (λ h. some (w_top h)) ≡ none → o ≡ none
     go none h = refl
     go (some h) k = let z : ◌≡◌ {A = ℕ} 0 1 = cc in absurd (omega arith)
 
-pub fair-w : (v : Values) (t : Top) → TopW v t → Fair t
+pub fair_w : (v : Values) (t : Top) → TopW v t → Fair t
 unfolding has between
-fair-w v t p = rw p.same (refl, refl)
+fair_w v t p = rw p.same (refl, refl)
 
-pub top-w-same : (s : List ℕ) (m : Marks) (fs : List Field) → Holds 21 s m fs → top_w (marked s m) ≡ top_w (lookup fs)
+pub top_w_same : (s : List ℕ) (m : Marks) (fs : List Field) → Holds 21 s m fs → top_w (marked s m) ≡ top_w (lookup fs)
 unfolding top_w slot_of
-top-w-same s m fs h =
+top_w_same s m fs h =
     rw (
-      top-x-same 21 s m fs (omega arith) h,
-      instrument-same (marked s m) (lookup fs) h.text,
+      top_x_same 21 s m fs (omega arith) h,
+      instrument_same (marked s m) (lookup fs) h.text,
       h.text 369 (omega arith),
       h.text 911 (omega arith),
     )
@@ -284,39 +284,39 @@ module _ (depth : ℕ) (fs : List Field) where
   abbrev w : Values
   w = lookup (up_to 268 fs)
 
-  pub w-untidy : tidy (below 21) (between 4 11) (up_to 268 fs) ≡ false → snapshot_of depth fs ≡ none
+  pub w_untidy : tidy (below 21) (between 4 11) (up_to 268 fs) ≡ false → snapshot_of depth fs ≡ none
   unfolding snapshot_of below between
-  w-untidy h = rw h
+  w_untidy h = rw h
 
-  pub w-no-top : top_w w ≡ none → snapshot_of depth fs ≡ none
+  pub w_no_top : top_w w ≡ none → snapshot_of depth fs ≡ none
   unfolding snapshot_of
-  w-no-top h = rw (no-head w h) (not-read (tidy named_tags head_w (up_to 268 fs)) none refl)
+  w_no_top h = rw (no_head w h) (not_read (tidy named_tags head_w (up_to 268 fs)) none refl)
 
-  w-answer : (h : Head) (o : Option (List (List Field)))
+  w_answer : (h : Head) (o : Option (List (List Field)))
       → told (or_bad_fields (o >>= λ es. each (entry_in_w depth h.id) es >>= λ us. need (running firsts us) (some (snapshot h us))))
-      ≡ answered (w-top h) (listing depth (w-top h) o)
+      ≡ answered (w_top h) (listing depth (w_top h) o)
   unfolding or_bad_fields answered listing entry_in ordered told
-  w-answer h none = refl
-  w-answer h (some es) = go (each (entry_in_w depth h.id) es)
+  w_answer h none = refl
+  w_answer h (some es) = go (each (entry_in_w depth h.id) es)
     where
-      pick : (z : Bool) (us : List Update) → told (or_bad_fields (need z (some (snapshot h us)))) ≡ answered (w-top h) (need z (some us))
+      pick : (z : Bool) (us : List Update) → told (or_bad_fields (need z (some (snapshot h us)))) ≡ answered (w_top h) (need z (some us))
       pick true us = refl
       pick false us = refl
 
-      go : (r : Option (List Update)) → told (or_bad_fields (r >>= λ us. need (running firsts us) (some (snapshot h us)))) ≡ answered (w-top h) (r >>= λ us. need (running firsts us) (some us))
+      go : (r : Option (List Update)) → told (or_bad_fields (r >>= λ us. need (running firsts us) (some (snapshot h us)))) ≡ answered (w_top h) (r >>= λ us. need (running firsts us) (some us))
       go none = refl
       go (some us) = pick (running firsts us) us
 
-  w-told : tidy (below 21) (between 4 11) (up_to 268 fs) ≡ true → (t : Top) → TopW w t
+  w_told : tidy (below 21) (between 4 11) (up_to 268 fs) ≡ true → (t : Top) → TopW w t
       → told (or_bad_fields (snapshot_of depth fs)) ≡ answered t (counted depth t (onward 268 fs))
   unfolding snapshot_of below between
-  w-told e t p =
+  w_told e t p =
       let q = p.same in
-      rw (e, p.read, q) (w-answer p.head (group_of 269 entry_w fs) ∙ ap (answered (w-top p.head)) (group-from depth (w-top p.head) fs))
+      rw (e, p.read, q) (w_answer p.head (group_of 269 entry_w fs) ∙ ap (answered (w_top p.head)) (group_from depth (w_top p.head) fs))
 
-  pub w-is : tidy (below 21) (between 4 11) (up_to 268 fs) ≡ true → (t : Top) → TopW w t → (rest : List Field) → rest ≡ onward 268 fs
+  pub w_is : tidy (below 21) (between 4 11) (up_to 268 fs) ≡ true → (t : Top) → TopW w t → (rest : List Field) → rest ≡ onward 268 fs
       → answered t (counted depth t rest) ≡ told (or_bad_fields (snapshot_of depth fs))
-  w-is h t p rest q = ap (λ (gs : List Field). answered t (counted depth t gs)) q ∙ sym (w-told h t p)
+  w_is h t p rest q = ap (λ (gs : List Field). answered t (counted depth t gs)) q ∙ sym (w_told h t p)
 
 -- ---- the other types
 no_zero : (fs : List Field) → all_tagged fs ≡ true → up_to 0 fs ≡ fs
@@ -327,69 +327,69 @@ no_zero (f ∷ fs) h =
     let l = leb-true 1 f.tag d.0 in
     rw (ne_eqb f.tag 0 (λ q. omega arith), no_zero fs d.1)
 
-onward-tagged : (fs : List Field) → all_tagged fs ≡ true → all_tagged (onward 268 fs) ≡ true
+onward_tagged : (fs : List Field) → all_tagged fs ≡ true → all_tagged (onward 268 fs) ≡ true
 unfolding onward
-onward-tagged [] h = refl
-onward-tagged (f ∷ fs) h = go (eqb f.tag 268) (onward-tagged fs (both (leb 1 f.tag) (all_tagged fs) h).1)
+onward_tagged [] h = refl
+onward_tagged (f ∷ fs) h = go (eqb f.tag 268) (onward_tagged fs (both (leb 1 f.tag) (all_tagged fs) h).1)
   where
     go : (z : Bool) → all_tagged (onward 268 fs) ≡ true → all_tagged (cond z (f ∷ fs) (onward 268 fs)) ≡ true
     go true i = h
     go false i = i
 
 -- 268 itself is not named there
-tidy-past : (fs : List Field) → tidy other_tags [] (onward 268 fs) ≡ tidy other_tags [] (past 268 fs)
+tidy_past : (fs : List Field) → tidy other_tags [] (onward 268 fs) ≡ tidy other_tags [] (past 268 fs)
 unfolding onward past tidy has
-tidy-past [] = refl
-tidy-past (f ∷ fs) = go (eqb f.tag 268) refl (tidy-past fs)
+tidy_past [] = refl
+tidy_past (f ∷ fs) = go (eqb f.tag 268) refl (tidy_past fs)
   where
     go : (z : Bool) → eqb f.tag 268 ≡ z → tidy other_tags [] (onward 268 fs) ≡ tidy other_tags [] (past 268 fs)
         → tidy other_tags [] (cond z (f ∷ fs) (onward 268 fs)) ≡ tidy other_tags [] (cond z fs (past 268 fs))
     go true q i = rw (eqb-true f.tag 268 q)
     go false q i = i
 
-rest-tidy : (fs : List Field) → all_tagged fs ≡ true → tidy (below 6) (between 0 0) (up_to 0 (onward 268 fs)) ≡ tidy other_tags [] (past 268 fs)
+rest_tidy : (fs : List Field) → all_tagged fs ≡ true → tidy (below 6) (between 0 0) (up_to 0 (onward 268 fs)) ≡ tidy other_tags [] (past 268 fs)
 unfolding below between
-rest-tidy fs h = rw (no_zero (onward 268 fs) (onward-tagged fs h)) (tidy-past fs)
+rest_tidy fs h = rw (no_zero (onward 268 fs) (onward_tagged fs h)) (tidy_past fs)
 
 module _ (fs : List Field) where
   abbrev y : Values
   y = lookup (up_to 268 fs)
 
-  pub o-untidy : tidy (below 6) (between 4 6) (up_to 268 fs) ≡ false → other_of fs ≡ none
+  pub o_untidy : tidy (below 6) (between 4 6) (up_to 268 fs) ≡ false → other_of fs ≡ none
   unfolding other_of below between
-  o-untidy h = rw h
+  o_untidy h = rw h
 
-  pub o-untidy-rest : all_tagged fs ≡ true → tidy (below 6) (between 0 0) (up_to 0 (onward 268 fs)) ≡ false → other_of fs ≡ none
+  pub o_untidy_rest : all_tagged fs ≡ true → tidy (below 6) (between 0 0) (up_to 0 (onward 268 fs)) ≡ false → other_of fs ≡ none
   unfolding other_of
-  o-untidy-rest f h = rw (sym (rest-tidy fs f) ∙ h) (go (tidy other_tags head_x (up_to 268 fs)))
+  o_untidy_rest f h = rw (sym (rest_tidy fs f) ∙ h) (go (tidy other_tags head_x (up_to 268 fs)))
     where
       go : (z : Bool) → need (z && false) (seq_at y >>= λ n. heard_at y >>= λ at. some (numbered n at [])) ≡ none
       go true = refl
       go false = refl
 
-  pub o-no-top : top_x y ≡ none → other_of fs ≡ none
+  pub o_no_top : top_x y ≡ none → other_of fs ≡ none
   unfolding other_of
-  o-no-top h =
-      not-read (tidy other_tags head_x (up_to 268 fs) && tidy other_tags [] (past 268 fs)) (seq_at y >>= λ n. heard_at y >>= λ at. some (numbered n at []))
-      (x-none y (λ n at. some (numbered n at [])) h)
+  o_no_top h =
+      not_read (tidy other_tags head_x (up_to 268 fs) && tidy other_tags [] (past 268 fs)) (seq_at y >>= λ n. heard_at y >>= λ at. some (numbered n at []))
+      (x_none y (λ n at. some (numbered n at [])) h)
 
   pub o_is : all_tagged fs ≡ true → tidy (below 6) (between 4 6) (up_to 268 fs) ≡ true → tidy (below 6) (between 0 0) (up_to 0 (onward 268 fs)) ≡ true
       → (t : Top) → TopX y t → bare_of Numbered t.number t.heard ≡ told (or_bad_fields (other_of fs))
   unfolding other_of or_bad_fields told bare_of below between
   o_is f h k t p =
       let q = p.same in
-      rw (h, sym (rest-tidy fs f) ∙ k, p.seq, p.heard, q)
+      rw (h, sym (rest_tidy fs f) ∙ k, p.seq, p.heard, q)
 
 -- ---- by the type
 module _ (depth kind : ℕ) (fs : List Field) where
-  pub type-x : kind ≡ 88 → told (or_bad_fields (typed_as depth kind fs)) ≡ told (or_bad_fields (changes_of depth fs))
+  pub type_x : kind ≡ 88 → told (or_bad_fields (typed_as depth kind fs)) ≡ told (or_bad_fields (changes_of depth fs))
   unfolding typed_as
-  type-x q = rw (eq-eqb kind 88 q)
+  type_x q = rw (eq-eqb kind 88 q)
 
-  pub type-w : (kind ≡ 88 → ⊥) → kind ≡ 87 → told (or_bad_fields (typed_as depth kind fs)) ≡ told (or_bad_fields (snapshot_of depth fs))
+  pub type_w : (kind ≡ 88 → ⊥) → kind ≡ 87 → told (or_bad_fields (typed_as depth kind fs)) ≡ told (or_bad_fields (snapshot_of depth fs))
   unfolding typed_as
-  type-w n q = rw (ne_eqb kind 88 n, eq-eqb kind 87 q)
+  type_w n q = rw (ne_eqb kind 88 n, eq-eqb kind 87 q)
 
-  pub type-other : (kind ≡ 88 → ⊥) → (kind ≡ 87 → ⊥) → told (or_bad_fields (typed_as depth kind fs)) ≡ told (or_bad_fields (other_of fs))
+  pub type_other : (kind ≡ 88 → ⊥) → (kind ≡ 87 → ⊥) → told (or_bad_fields (typed_as depth kind fs)) ≡ told (or_bad_fields (other_of fs))
   unfolding typed_as
-  type-other n m = rw (ne_eqb kind 88 n, ne_eqb kind 87 m)
+  type_other n m = rw (ne_eqb kind 88 n, ne_eqb kind 87 m)

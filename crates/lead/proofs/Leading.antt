@@ -20,37 +20,37 @@ use Rattle.lead.specs.LeadOf.{alone_lead}
 use Rattle.lead.specs.declared.Lead.{Lead}
 use Rattle.lead.specs.declared.Topped.{Topped}
 use Rattle.position.specs.declared.Top.{Top}
-use Rattle.group.proofs.Grouping.{group-start, at-end}
+use Rattle.group.proofs.Grouping.{group_start, at_end_lem}
 
 abbrev top_of : Verdict → ℕ → ℕ → Top
 top_of v n heard = record { verdict = v; first = 279; low = 8; number = n; heard = heard; id = 0; last = 0; loops = 0 }
 
-top-fair : (v : Verdict) (n heard : ℕ) → Fair (top_of v n heard)
+top_fair : (v : Verdict) (n heard : ℕ) → Fair (top_of v n heard)
 unfolding has between
-top-fair v n heard = (refl, refl)
+top_fair v n heard = (refl, refl)
 
-none-grouped : (depth : ℕ) (t : Top) (s : List ℕ) → grouped depth t 0 (left s (length s)) ≡ some []
-none-grouped depth t s =
-    ap (grouped depth t 0) (walked s (length s) (omega arith)) ∙ group-start depth t 0 [] ∙ at-end depth t 0 firsts [] refl
+none_grouped : (depth : ℕ) (t : Top) (s : List ℕ) → grouped depth t 0 (left s (length s)) ≡ some []
+none_grouped depth t s =
+    ap (grouped depth t 0) (walked s (length s) (omega arith)) ∙ group_start depth t 0 [] ∙ at_end_lem depth t 0 firsts [] refl
 
 none_told : (v : Verdict) (n heard : ℕ) → answered (top_of v n heard) (some []) ≡ bare_of v n heard
 unfolding answered bare_of
 none_told v n heard = refl
 
-pub alone-leads : (s : List ℕ) (v : Verdict) (n heard : ℕ)
+pub alone_leads : (s : List ℕ) (v : Verdict) (n heard : ℕ)
     → Leads s (alone_lead s v n heard) (alone_lead s v n heard) (λ depth. bare_of v n heard)
-alone-leads s v n heard =
+alone_leads s v n heard =
     record {
       exact = refl;
-      fair = top-fair v n heard;
+      fair = top_fair v n heard;
       few = omega arith;
-      says = λ depth. ap (answered (top_of v n heard)) (none-grouped depth (top_of v n heard) s) ∙ none_told v n heard;
+      says = λ depth. ap (answered (top_of v n heard)) (none_grouped depth (top_of v n heard) s) ∙ none_told v n heard;
     }
 
 -- in other words
-pub leads-as : {s : List ℕ} {l d e : Lead} {f : ℕ → Told} → Leads s l d f → d ≡ e → (g : ℕ → Told) → ((depth : ℕ) → f depth ≡ g depth)
+pub leads_as : {s : List ℕ} {l d e : Lead} {f : ℕ → Told} → Leads s l d f → d ≡ e → (g : ℕ → Told) → ((depth : ℕ) → f depth ≡ g depth)
     → Leads s l e g
-leads-as h p g q = record { exact = h.exact ∙ p; fair = h.fair; few = h.few; says = λ depth. h.says depth ∙ q depth }
+leads_as h p g q = record { exact = h.exact ∙ p; fair = h.fair; few = h.few; says = λ depth. h.says depth ∙ q depth }
 
 -- what stands before a group was read, or not
 pub no_top : (o : Option Top) → topped o ≡ Topped.No → o ≡ none
@@ -58,12 +58,12 @@ unfolding topped
 no_top none h = refl
 no_top (some t) h = let z : ◌≡◌ {A = ℕ} 0 1 = cc in absurd (omega arith)
 
-pub a-top : (o : Option Top) {t : Top} → topped o ≡ Topped.Is t → o ≡ some t
+pub a_top : (o : Option Top) {t : Top} → topped o ≡ Topped.Is t → o ≡ some t
 unfolding topped
-a-top none h = let z : ◌≡◌ {A = ℕ} 0 1 = cc in absurd (omega arith)
-a-top (some t) h = cc
+a_top none h = let z : ◌≡◌ {A = ℕ} 0 1 = cc in absurd (omega arith)
+a_top (some t) h = cc
 
 -- a breach leads to no entry
-pub bare-refused : (why : Refusal) → bare_of (Refused why) 0 0 ≡ told (refused why)
+pub bare_refused : (why : Refusal) → bare_of (Refused why) 0 0 ≡ told (refused why)
 unfolding bare_of told
-bare-refused why = refl
+bare_refused why = refl

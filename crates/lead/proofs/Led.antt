@@ -21,23 +21,23 @@ use Rattle.lead.specs.LeadOf.{alone_lead, breach_lead, counted_lead, topped_lead
 
 -- ---- the group from 268 on
 module _ (s : List ℕ) (start : ℕ) (t : Top) where
-  pub none-led : length s ≤ start → breach_lead s ≡ counted_lead s start t
+  pub none_led : length s ≤ start → breach_lead s ≡ counted_lead s start t
   unfolding counted_lead
-  none-led l = rw (le-leb (length s) start l)
+  none_led l = rw (le-leb (length s) start l)
 
   module _ (l : start < length s) where
-    pub torn-led : field_at s start ≡ Step.No → breach_lead s ≡ counted_lead s start t
+    pub torn_led : field_at s start ≡ Step.No → breach_lead s ≡ counted_lead s start t
     unfolding counted_lead
-    torn-led e = rw (lt-leb (length s) start l, e)
+    torn_led e = rw (lt-leb (length s) start l, e)
 
     module _ {tag from to : ℕ} (e : field_at s start ≡ Step.Is tag from to) where
-      pub bad-led : ranged_of 2 0 64 (part from to s) ≡ Number.No → breach_lead s ≡ counted_lead s start t
+      pub bad_led : ranged_of 2 0 64 (part from to s) ≡ Number.No → breach_lead s ≡ counted_lead s start t
       unfolding counted_lead
-      bad-led q = rw (lt-leb (length s) start l, e, q)
+      bad_led q = rw (lt-leb (length s) start l, e, q)
 
-      pub good-led : {n : ℕ} → ranged_of 2 0 64 (part from to s) ≡ Number.Is n → record { top = t; at = to + 1; count = n } ≡ counted_lead s start t
+      pub good_led : {n : ℕ} → ranged_of 2 0 64 (part from to s) ≡ Number.Is n → record { top = t; at = to + 1; count = n } ≡ counted_lead s start t
       unfolding counted_lead
-      good-led q = rw (lt-leb (length s) start l, e, q)
+      good_led q = rw (lt-leb (length s) start l, e, q)
 
 -- ---- X and W: the place p was walked as w says
 module _ (s : List ℕ) (top : Values → Option Top) {p w : Place} (q : p ≡ w) where
@@ -45,14 +45,14 @@ module _ (s : List ℕ) (top : Values → Option Top) {p w : Place} (q : p ≡ w
   unfolding walked_lead
   walked z h = ap (λ (b : Bool). cond b (topped_lead s p.at (top (marked s p.marks))) (breach_lead s)) (sym h) ∙ ap (walked_lead s top) q
 
-  pub untidy-led : p.ok ≡ false → breach_lead s ≡ walked_lead s top w
-  untidy-led h = walked false h
+  pub untidy_led : p.ok ≡ false → breach_lead s ≡ walked_lead s top w
+  untidy_led h = walked false h
 
-  pub topless-led : p.ok ≡ true → top (marked s p.marks) ≡ none → breach_lead s ≡ walked_lead s top w
-  topless-led h e = ap (topped_lead s p.at) (sym e) ∙ walked true h
+  pub topless_led : p.ok ≡ true → top (marked s p.marks) ≡ none → breach_lead s ≡ walked_lead s top w
+  topless_led h e = ap (topped_lead s p.at) (sym e) ∙ walked true h
 
-  pub topped-led : {t : Top} → p.ok ≡ true → top (marked s p.marks) ≡ some t → counted_lead s p.at t ≡ walked_lead s top w
-  topped-led h e = ap (topped_lead s p.at) (sym e) ∙ walked true h
+  pub topped_led : {t : Top} → p.ok ≡ true → top (marked s p.marks) ≡ some t → counted_lead s p.at t ≡ walked_lead s top w
+  topped_led h e = ap (topped_lead s p.at) (sym e) ∙ walked true h
 
 -- ---- the other types: p was walked as w says, and the rest as r
 module _ (s : List ℕ) {p w : Place} (q : p ≡ w) where
@@ -61,32 +61,32 @@ module _ (s : List ℕ) {p w : Place} (q : p ≡ w) where
   tidied z h =
       ap (λ (b : Bool). cond b (rest_lead s p (walk_on 0 6 0 0 p.at no_marks (left s p.at))) (breach_lead s)) (sym h) ∙ ap (alone_by s) q
 
-  pub untidy-alone : p.ok ≡ false → breach_lead s ≡ alone_by s w
-  untidy-alone h = tidied false h
+  pub untidy_alone : p.ok ≡ false → breach_lead s ≡ alone_by s w
+  untidy_alone h = tidied false h
 
   module _ {r : Place} (h : p.ok ≡ true) (e : r ≡ walk_on 0 6 0 0 p.at no_marks (left s p.at)) where
     rested : (z : Bool) → r.ok ≡ z → cond z (numbered_lead s (top_x (marked s p.marks))) (breach_lead s) ≡ alone_by s w
     rested z k = ap (λ (b : Bool). cond b (numbered_lead s (top_x (marked s p.marks))) (breach_lead s)) (sym k) ∙ ap (rest_lead s p) e ∙ tidied true h
 
-    pub untidy-rest : r.ok ≡ false → breach_lead s ≡ alone_by s w
-    untidy-rest k = rested false k
+    pub untidy_rest : r.ok ≡ false → breach_lead s ≡ alone_by s w
+    untidy_rest k = rested false k
 
-    pub topless-alone : r.ok ≡ true → top_x (marked s p.marks) ≡ none → breach_lead s ≡ alone_by s w
-    topless-alone k n = ap (numbered_lead s) (sym n) ∙ rested true k
+    pub topless_alone : r.ok ≡ true → top_x (marked s p.marks) ≡ none → breach_lead s ≡ alone_by s w
+    topless_alone k n = ap (numbered_lead s) (sym n) ∙ rested true k
 
-    pub topped-alone : {t : Top} → r.ok ≡ true → top_x (marked s p.marks) ≡ some t → alone_lead s Numbered t.number t.heard ≡ alone_by s w
-    topped-alone k n = ap (numbered_lead s) (sym n) ∙ rested true k
+    pub topped_alone : {t : Top} → r.ok ≡ true → top_x (marked s p.marks) ≡ some t → alone_lead s Numbered t.number t.heard ≡ alone_by s w
+    topped_alone k n = ap (numbered_lead s) (sym n) ∙ rested true k
 
 -- ---- by the type
 module _ (kind : ℕ) (s : List ℕ) where
-  pub led-x : kind ≡ 88 → changes_lead s ≡ lead_of kind s
+  pub led_x : kind ≡ 88 → changes_lead s ≡ lead_of kind s
   unfolding lead_of
-  led-x e = rw (eq-eqb kind 88 e)
+  led_x e = rw (eq-eqb kind 88 e)
 
-  pub led-w : (kind ≡ 88 → ⊥) → kind ≡ 87 → snapshot_lead s ≡ lead_of kind s
+  pub led_w : (kind ≡ 88 → ⊥) → kind ≡ 87 → snapshot_lead s ≡ lead_of kind s
   unfolding lead_of
-  led-w n e = rw (ne_eqb kind 88 n, eq-eqb kind 87 e)
+  led_w n e = rw (ne_eqb kind 88 n, eq-eqb kind 87 e)
 
-  pub led-other : (kind ≡ 88 → ⊥) → (kind ≡ 87 → ⊥) → other_lead s ≡ lead_of kind s
+  pub led_other : (kind ≡ 88 → ⊥) → (kind ≡ 87 → ⊥) → other_lead s ≡ lead_of kind s
   unfolding lead_of
-  led-other n m = rw (ne_eqb kind 88 n, ne_eqb kind 87 m)
+  led_other n m = rw (ne_eqb kind 88 n, ne_eqb kind 87 m)

@@ -11,25 +11,25 @@ use Rattle.loops.specs.Ending as ending
 use Rattle.loops.specs.Channel.{given}
 use Rattle.loops.specs.Cases.{LoopCases}
 
-pub loop-cases : LoopCases
+pub loop_cases : LoopCases
 unfolding applied after_action after_new after_delete any_waiting waiting_in look joining hit give gives count number entries_of run after take snap feed given in_row is_whole with_name lower ending.at_end ending.ends ending.ended marked with_mark
-loop-cases =
+loop_cases =
     record {
-      bid-answer = refl;
-      bid-live = refl;
-      bid-book = refl;
-      bid-base = refl;
-      bid-queue = refl;
-      bid-loop = refl;
-      gone-answer = refl;
-      gone-waits = refl;
-      gone-reason = refl;
-      gone-book = refl;
-      gone-base = refl;
-      gone-queue = refl;
-      gone-loop = refl;
-      other-answer = refl;
-      other-7 = refl;
-      other-9 = refl;
-      other-waits = refl;
+      bid_answer = refl;
+      bid_live = refl;
+      bid_book = refl;
+      bid_base = refl;
+      bid_queue = refl;
+      bid_loop = refl;
+      gone_answer = refl;
+      gone_waits = refl;
+      gone_reason = refl;
+      gone_book = refl;
+      gone_base = refl;
+      gone_queue = refl;
+      gone_loop = refl;
+      other_answer = refl;
+      other_7 = refl;
+      other_9 = refl;
+      other_waits = refl;
     }

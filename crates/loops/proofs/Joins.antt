@@ -10,25 +10,25 @@ use Rattle.board.proofs.Tested.{both}
 use Rattle.loops.specs.declared.Loop.{Loop}
 use Rattle.loops.specs.Loops.{no_loop, with_name, lower, begun, is_next, grown, in_row}
 
-pub lower-is : (a b : ℕ) → a < b → lower a b ≡ a
+pub lower_is : (a b : ℕ) → a < b → lower a b ≡ a
 unfolding lower
-lower-is a b h = rw (lt-ltb a b h)
+lower_is a b h = rw (lt-ltb a b h)
 
-pub lower-not : (a b : ℕ) → b ≤ a → lower a b ≡ b
+pub lower_not : (a b : ℕ) → b ≤ a → lower a b ≡ b
 unfolding lower
-lower-not a b h = rw (le-ltb a b h)
+lower_not a b h = rw (le-ltb a b h)
 
 pub not_named : (n i named : ℕ) → n ≤ i → with_name n i named ≡ named
 unfolding with_name
 not_named n i named h = rw (le-leb n i h)
 
-pub is-named : (n i named : ℕ) → i < n → with_name n i named ≡ with_mark named i
+pub is_named_lem : (n i named : ℕ) → i < n → with_name n i named ≡ with_mark named i
 unfolding with_name
-is-named n i named h = rw (lt-leb n i h)
+is_named_lem n i named h = rw (lt-leb n i h)
 
 -- the next of the row has the next 34, and the same 911
-pub next-is : (h : Head) (l : Loop) → is_next h l ≡ true → (h.number ≡ l.come + 1) × (h.loops ≡ l.loops)
-next-is h l e =
+pub next_is : (h : Head) (l : Loop) → is_next h l ≡ true → (h.number ≡ l.come + 1) × (h.loops ≡ l.loops)
+next_is h l e =
     let p = both (eqb h.number (l.come + 1)) (eqb h.loops l.loops) e in
     (eqb-true h.number (l.come + 1) p.0, eqb-true h.loops l.loops p.1)
 

@@ -7,7 +7,7 @@ use native.Mathlib.Omega.{arith}
 use lib.Dec.{ltb, eqb}
 use lib.ListN.{length}
 use borrow.Author.Tests.{eqb-true, eqb-false, not-true}
-use Rattle.book.proofs.Tests.{by-test}
+use Rattle.book.proofs.Tests.{by_test}
 use Rattle.message.specs.Message.{Head, numbered, snapshot, refused}
 use Rattle.book.specs.declared.Update.{Update}
 use Rattle.heading.specs.Marks.{marked}
@@ -18,9 +18,9 @@ use Rattle.board.specs.Calls.{Call, fed, aside, inst, Live}
 use Rattle.board.specs.Laws.{InRange}
 use Rattle.board.specs.Snapshot.{shown, too_wide, snap_by, snap}
 use Rattle.board.specs.Sound.{among, distinct, Sound}
-use Rattle.board.proofs.Keeping.{feed-sound}
-use Rattle.board.proofs.Others.{own-snapshot-only}
-use Rattle.board.proofs.Taken.{taken-is-live}
+use Rattle.board.proofs.Keeping.{feed_sound}
+use Rattle.board.proofs.Others.{own_snapshot_only}
+use Rattle.board.proofs.Taken.{taken_is_live}
 use Rattle.board.proofs.Tested.{both}
 use Rattle.loops.specs.declared.Loop.{Loop}
 use Rattle.loops.specs.Loops.{no_loop, is_whole}
@@ -30,8 +30,8 @@ use Rattle.loops.specs.Calls.{called, calls, Throughout}
 use Rattle.loops.specs.Demand.{AtEnd}
 use Rattle.loops.specs.Sound.{SoundChannel}
 use Rattle.loops.specs.Laws.{head_for, empty_for, unnamed}
-use Rattle.loops.proofs.Ending.{end-is-snapshots}
-use Rattle.loops.proofs.Laws.{keeps-sound}
+use Rattle.loops.proofs.Ending.{end_is_snapshots}
+use Rattle.loops.proofs.Laws.{keeps_sound}
 
 -- neither of two tests
 neither : (a b : Bool) → a || b ≡ false → (a ≡ false) × (b ≡ false)
@@ -40,14 +40,14 @@ neither false b e = (refl, e)
 
 -- ---- one after another
 
-calls-then : (xs ys : List Call) (b : Board) → board.calls (xs ++ ys) b ≡ board.calls ys (board.calls xs b)
-calls-then [] ys b = refl
-calls-then (x ∷ xs) ys b = calls-then xs ys (board.called x b).board
+calls_then : (xs ys : List Call) (b : Board) → board.calls (xs ++ ys) b ≡ board.calls ys (board.calls xs b)
+calls_then [] ys b = refl
+calls_then (x ∷ xs) ys b = calls_then xs ys (board.called x b).board
 
-through-then : (P : Call → Board → Type 0) (xs ys : List Call) (b : Board) → board.Throughout P xs b → board.Throughout P ys (board.calls xs b)
+through_then : (P : Call → Board → Type 0) (xs ys : List Call) (b : Board) → board.Throughout P xs b → board.Throughout P ys (board.calls xs b)
     → board.Throughout P (xs ++ ys) b
-through-then P [] ys b p q = q
-through-then P (x ∷ xs) ys b p q = (p.0, through-then P xs ys (board.called x b).board p.1 q)
+through_then P [] ys b p q = q
+through_then P (x ∷ xs) ys b p q = (p.0, through_then P xs ys (board.called x b).board p.1 q)
 
 -- ---- the calls on the board
 
@@ -65,9 +65,9 @@ pub lowers : List Call → Channel → List Call
 lowers [] c = []
 lowers (k ∷ ks) c = lower k c ++ lowers ks (called k c).channel
 
-lower-is : (k : Call) (c : Channel) → SoundChannel c → InRange k c.board → board.calls (lower k c) c.board ≡ (called k c).channel.board
+lower_is : (k : Call) (c : Channel) → SoundChannel c → InRange k c.board → board.calls (lower k c) c.board ≡ (called k c).channel.board
 unfolding lower given
-lower-is (fed (snapshot h us)) c s f = go (is_whole l)
+lower_is (fed (snapshot h us)) c s f = go (is_whole l)
   where
     l : Loop
     l = joined_by h c.board c.loop
@@ -76,37 +76,37 @@ lower-is (fed (snapshot h us)) c s f = go (is_whole l)
     b = (feed (snapshot h us) c.board).board
 
     go : (t : Bool) → board.calls (cond t (unnamed l 0 b.insts) []) b ≡ (cond t (channel (ended l b) no_loop) (channel b l)).board
-    go true = sym (end-is-snapshots l b (feed-sound (snapshot h us) c.board s.board f))
+    go true = sym (end_is_snapshots l b (feed_sound (snapshot h us) c.board s.board f))
     go false = refl
-lower-is (fed (numbered n heard us)) c s f = refl
-lower-is (fed (refused why)) c s f = refl
-lower-is (aside a) c s f = refl
+lower_is (fed (numbered n heard us)) c s f = refl
+lower_is (fed (refused why)) c s f = refl
+lower_is (aside a) c s f = refl
 
 -- a call that is in range leaves a sound channel sound
-called-sound : (k : Call) (c : Channel) → SoundChannel c → InRange k c.board → SoundChannel (called k c).channel
-called-sound (fed m) c s f = keeps-sound m c s f
-called-sound (aside a) c s f = s
+called_sound : (k : Call) (c : Channel) → SoundChannel c → InRange k c.board → SoundChannel (called k c).channel
+called_sound (fed m) c s f = keeps_sound m c s f
+called_sound (aside a) c s f = s
 
 abbrev pub Ranged : Call → Channel → Type 0
 Ranged k c = InRange k c.board
 
-pub lowers-is : (ks : List Call) (c : Channel) → SoundChannel c → Throughout Ranged ks c → board.calls (lowers ks c) c.board ≡ (calls ks c).board
+pub lowers_is : (ks : List Call) (c : Channel) → SoundChannel c → Throughout Ranged ks c → board.calls (lowers ks c) c.board ≡ (calls ks c).board
 unfolding lowers
-lowers-is [] c s f = refl
-lowers-is (k ∷ ks) c s f =
+lowers_is [] c s f = refl
+lowers_is (k ∷ ks) c s f =
     let d = (called k c).channel in
-    calls-then (lower k c) (lowers ks d) c.board ∙ ap (board.calls (lowers ks d)) (lower-is k c s f.0) ∙ lowers-is ks d (called-sound k c s f.0) f.1
+    calls_then (lower k c) (lowers ks d) c.board ∙ ap (board.calls (lowers ks d)) (lower_is k c s f.0) ∙ lowers_is ks d (called_sound k c s f.0) f.1
 
 -- what holds of each call on a channel holds of the calls on its board
-pub lowers-through : (P : Call → Board → Type 0) (Q : Call → Channel → Type 0)
+pub lowers_through : (P : Call → Board → Type 0) (Q : Call → Channel → Type 0)
     → ((k : Call) (c : Channel) → SoundChannel c → Ranged k c → Q k c → board.Throughout P (lower k c) c.board)
     → (ks : List Call) (c : Channel) → SoundChannel c → Throughout Ranged ks c → Throughout Q ks c → board.Throughout P (lowers ks c) c.board
 unfolding lowers
-lowers-through P Q h [] c s f q = tt
-lowers-through P Q h (k ∷ ks) c s f q =
+lowers_through P Q h [] c s f q = tt
+lowers_through P Q h (k ∷ ks) c s f q =
     let d = (called k c).channel in
-    through-then P (lower k c) (lowers ks d) c.board (h k c s f.0 q.0)
-    (rw (lower-is k c s f.0) (lowers-through P Q h ks d (called-sound k c s f.0) f.1 q.1))
+    through_then P (lower k c) (lowers ks d) c.board (h k c s f.0 q.0)
+    (rw (lower_is k c s f.0) (lowers_through P Q h ks d (called_sound k c s f.0) f.1 q.1))
 
 -- ---- where the end of a loop takes a snapshot for d
 
@@ -115,9 +115,9 @@ record Left (b : Board) (o : Out) : Type 0 where
   same : o.board ≡ b
   not_taken : o.answer ≡ 4 → ⊥
 
-live-left : (h : Head) (us : List Update) (b : Board) → (inst h.id b).waiting ≡ false → Left b (feed (snapshot h us) b)
+live_left : (h : Head) (us : List Update) (b : Board) → (inst h.id b).waiting ≡ false → Left b (feed (snapshot h us) b)
 unfolding feed snap
-live-left h us b w = rw w (go (ltb i (length b.insts)))
+live_left h us b w = rw w (go (ltb i (length b.insts)))
   where
     i : ℕ
     i = look h.id b.insts
@@ -134,9 +134,9 @@ waited d h us b v = go (inst d b).waiting (eqb d h.id) refl refl
     go true t p q = refl
     go false true p q =
         let e : d ≡ h.id = eqb-true d h.id q in
-        let l = live-left h us b (ap (λ (k : ℕ). (inst k b).waiting) (sym e) ∙ p) in
+        let l = live_left h us b (ap (λ (k : ℕ). (inst k b).waiting) (sym e) ∙ p) in
         sym p ∙ ap (λ (c : Board). (inst d c).waiting) (sym l.same) ∙ v
-    go false false p q = sym p ∙ ap (λ (x : Inst). x.waiting) (sym (own-snapshot-only d h us b (eqb-false d h.id q))) ∙ v
+    go false false p q = sym p ∙ ap (λ (x : Inst). x.waiting) (sym (own_snapshot_only d h us b (eqb-false d h.id q))) ∙ v
 
 -- snapshots for others leave d as it is
 others : (d : ℕ) (l : Loop) (i : ℕ) (xs : List Inst) (b : Board) → among d (ids_of xs) ≡ false → inst d (board.calls (unnamed l i xs) b) ≡ inst d b
@@ -144,20 +144,20 @@ unfolding unnamed
 others d l i [] b e = refl
 others d l i (x ∷ xs) b e =
     let p = neither (eqb x.id d) (among d (ids_of xs)) e in
-    by-test (λ (cs : List Call). inst d (board.calls cs b) ≡ inst d b) (marked l.named i) (λ _. others d l (suc i) xs b p.1)
+    by_test (λ (cs : List Call). inst d (board.calls cs b) ≡ inst d b) (marked l.named i) (λ _. others d l (suc i) xs b p.1)
     (λ _. others d l (suc i) xs (feed (empty_for x.id l.low) b).board p.1
-    ∙ own-snapshot-only d (head_for x.id l.low) [] b (λ q. eqb-false x.id d p.0 (sym q)))
+    ∙ own_snapshot_only d (head_for x.id l.low) [] b (λ q. eqb-false x.id d p.0 (sym q)))
 
 -- what is supposed of d where it waits before the snapshots and is Live behind them is supposed of the one for d that is taken
 module _ (P : Call → Board → Type 0) (d : ℕ) (l : Loop) (R : Type 0)
     (f : (e : ℕ) (b : Board) → ((feed (empty_for e l.low) b).answer ≡ 4 → e ≡ d → R) → P (fed (empty_for e l.low)) b) where
-  unnamed-through : (i : ℕ) (xs : List Inst) (b : Board) → distinct (ids_of xs) ≡ true
+  unnamed_through : (i : ℕ) (xs : List Inst) (b : Board) → distinct (ids_of xs) ≡ true
       → ((inst d b).waiting ≡ true → Live d (board.calls (unnamed l i xs) b) → R) → board.Throughout P (unnamed l i xs) b
   unfolding unnamed distinct
-  unnamed-through i [] b u g = tt
-  unnamed-through i (x ∷ xs) b u g =
+  unnamed_through i [] b u g = tt
+  unnamed_through i (x ∷ xs) b u g =
       let p = both (not (among x.id (ids_of xs))) (distinct (ids_of xs)) u in
-      go (marked l.named i) p.0 (unnamed-through (suc i) xs b p.1) (unnamed-through (suc i) xs after p.1) g
+      go (marked l.named i) p.0 (unnamed_through (suc i) xs b p.1) (unnamed_through (suc i) xs after p.1) g
     where
       h : Head
       h = head_for x.id l.low
@@ -175,12 +175,12 @@ module _ (P : Call → Board → Type 0) (d : ℕ) (l : Loop) (R : Type 0)
         where
           go : (w : Bool) → (inst d b).waiting ≡ w → w ≡ true
           go true q = refl
-          go false q = absurd ((live-left h [] b (ap (λ (k : ℕ). (inst k b).waiting) e ∙ q)).not_taken a)
+          go false q = absurd ((live_left h [] b (ap (λ (k : ℕ). (inst k b).waiting) e ∙ q)).not_taken a)
 
           live : Live d (board.calls rest after)
           live =
               ap (λ (y : Inst). y.waiting) (others d l (suc i) xs after (ap (λ (k : ℕ). among k (ids_of xs)) (sym e) ∙ not-true (among x.id (ids_of xs)) n))
-              ∙ ap (λ (k : ℕ). (inst k after).waiting) (sym e) ∙ (taken-is-live h [] b a).0
+              ∙ ap (λ (k : ℕ). (inst k after).waiting) (sym e) ∙ (taken_is_live h [] b a).0
 
       go : (m : Bool) → not (among x.id (ids_of xs)) ≡ true
           → (((inst d b).waiting ≡ true → Live d (board.calls rest b) → R) → board.Throughout P rest b)
@@ -191,11 +191,11 @@ module _ (P : Call → Board → Type 0) (d : ℕ) (l : Loop) (R : Type 0)
       go false n here there g = (f x.id b (own n g), there (λ w. g (waited d h [] b w)))
 
 -- the calls that a W on a channel is: what is supposed of the W itself, and of the loop's end
-pub lower-through : (P : Call → Board → Type 0) (d : ℕ) (R : ℕ → Type 0)
+pub lower_through : (P : Call → Board → Type 0) (d : ℕ) (R : ℕ → Type 0)
     → ((S e : ℕ) (b : Board) → ((feed (empty_for e S) b).answer ≡ 4 → e ≡ d → R S) → P (fed (empty_for e S)) b)
     → (k : Call) (c : Channel) → SoundChannel c → Ranged k c → P k c.board × AtEnd d R k c → board.Throughout P (lower k c) c.board
 unfolding lower
-lower-through P d R f (fed (snapshot h us)) c s r q = (q.0, go (is_whole l) refl)
+lower_through P d R f (fed (snapshot h us)) c s r q = (q.0, go (is_whole l) refl)
   where
     l : Loop
     l = joined_by h c.board c.loop
@@ -204,13 +204,13 @@ lower-through P d R f (fed (snapshot h us)) c s r q = (q.0, go (is_whole l) refl
     b = (feed (snapshot h us) c.board).board
 
     t : Sound b
-    t = feed-sound (snapshot h us) c.board s.board r
+    t = feed_sound (snapshot h us) c.board s.board r
 
     go : (t : Bool) → is_whole l ≡ t → board.Throughout P (cond t (unnamed l 0 b.insts) []) b
     go false e = tt
     go true e =
-        unnamed-through P d l (R l.low) (f l.low) 0 b.insts b t.apart
-        (λ w v. q.1 (record { whole = e; waits = w; live = rw (end-is-snapshots l b t) v }))
-lower-through P d R f (fed (numbered n heard us)) c s r q = (q.0, tt)
-lower-through P d R f (fed (refused why)) c s r q = (q.0, tt)
-lower-through P d R f (aside a) c s r q = (q.0, tt)
+        unnamed_through P d l (R l.low) (f l.low) 0 b.insts b t.apart
+        (λ w v. q.1 (record { whole = e; waits = w; live = rw (end_is_snapshots l b t) v }))
+lower_through P d R f (fed (numbered n heard us)) c s r q = (q.0, tt)
+lower_through P d R f (fed (refused why)) c s r q = (q.0, tt)
+lower_through P d R f (aside a) c s r q = (q.0, tt)

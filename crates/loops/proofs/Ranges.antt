@@ -6,7 +6,7 @@ use native.Mathlib.Nat.{div-eq_of_lt}
 use native.Mathlib.Omega.{arith}
 use lib.Dec.{leb, ltb, eqb}
 use borrow.Author.Tests.{eq-eqb, ne_eqb, ltb-true, ltb-false}
-use Rattle.heading.proofs.Bits.{no-bit}
+use Rattle.heading.proofs.Bits.{no_bit}
 use Rattle.message.specs.Message.{most_number}
 use Rattle.loops.specs.declared.Loop.{Loop}
 use Rattle.loops.specs.Sound.{rests_loop, sound_loop}
@@ -17,7 +17,7 @@ above m k = go (ltb m (2 ^ k)) refl
   where
     go : (t : Bool) → ltb m (2 ^ k) ≡ t → t ≡ eqb (m / 2 ^ k) 0
     go true e = sym (eq-eqb (m / 2 ^ k) 0 (div-eq_of_lt (ltb-true m (2 ^ k) e)))
-    go false e = sym (ne_eqb (m / 2 ^ k) 0 (λ z. omega (arith, no-bit m k z, ltb-false m (2 ^ k) e)))
+    go false e = sym (ne_eqb (m / 2 ^ k) 0 (λ z. omega (arith, no_bit m k z, ltb-false m (2 ^ k) e)))
 
 module _ (k : ℕ) (l : Loop) where
   pub rests : l.loops ≡ 0 → sound_loop k l ≡ rests_loop l

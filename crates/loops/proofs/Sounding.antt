@@ -7,17 +7,17 @@ use lib.Dec.{leb, ltb, eqb}
 use lib.ListN.{length}
 use lib.Pow.{pow_pos}
 use borrow.Author.Tests.{leb-true, ltb-true, ltb-false, eqb-true, eqb-false, le-leb, lt-ltb, ne_eqb, leb-false}
-use Rattle.book.proofs.Tests.{by-test}
+use Rattle.book.proofs.Tests.{by_test}
 use Rattle.message.specs.Message.{Head, most_number}
-use Rattle.heading.proofs.Bits.{mark-lt}
+use Rattle.heading.proofs.Bits.{mark_lt}
 use Rattle.board.specs.Ranges.{within, moment_fine, id_fine, head_fine}
 use Rattle.board.specs.Sound.{sound_board}
-use Rattle.board.proofs.Tested.{both, and-true, within-true, tested-sound, sound-tested}
+use Rattle.board.proofs.Tested.{both, and_true, within_true, tested_sound, sound_tested}
 use Rattle.loops.specs.declared.Loop.{Loop}
 use Rattle.loops.specs.Loops.{no_loop, with_name, lower, begun, is_next, grown, in_row, is_whole}
 use Rattle.loops.specs.Channel.{Channel}
 use Rattle.loops.specs.Sound.{rests_loop, runs_loop, sound_loop, sound_channel, SoundChannel}
-use Rattle.loops.proofs.Joins.{next-is}
+use Rattle.loops.proofs.Joins.{next_is}
 
 -- ---- the tests as facts
 
@@ -44,11 +44,11 @@ module _ (k : ℕ) (l : Loop) where
         named = ltb-true l.named (2 ^ k) p.1;
       }
 
-  runs-sound : Runs k l → sound_loop k l ≡ true
+  runs_sound : Runs k l → sound_loop k l ≡ true
   unfolding sound_loop
-  runs-sound r =
+  runs_sound r =
       rw (ne_eqb l.loops 0 (λ z. omega (arith, r.some, r.fewer, z)))
-      (and-true (and-true (and-true (and-true (le-leb _ _ r.some) (lt-ltb _ _ r.fewer)) (le-leb _ _ r.loops)) (le-leb _ _ r.low)) (lt-ltb _ _ r.named))
+      (and_true (and_true (and_true (and_true (le-leb _ _ r.some) (lt-ltb _ _ r.fewer)) (le-leb _ _ r.loops)) (le-leb _ _ r.low)) (lt-ltb _ _ r.named))
 
   -- none runs, or one does
   by_loop : (P : Type 0) → sound_loop k l ≡ true → (l.come ≡ 0 → l.low ≡ 0 → l.named ≡ 0 → P) → (Runs k l → P) → P
@@ -62,39 +62,39 @@ module _ (k : ℕ) (l : Loop) where
           none (eqb-true l.come 0 q.0) (eqb-true l.low 0 q.1) (eqb-true l.named 0 p.1)
       go false e = one (runs_of e)
 
-  pub come-below : sound_loop k l ≡ true → l.come ≤ most_number
-  come-below e = by_loop (l.come ≤ most_number) e (λ c _ _. omega (arith, c)) (λ r. omega (arith, r.fewer, r.loops))
+  pub come_below : sound_loop k l ≡ true → l.come ≤ most_number
+  come_below e = by_loop (l.come ≤ most_number) e (λ c _ _. omega (arith, c)) (λ r. omega (arith, r.fewer, r.loops))
 
-  pub named-below : sound_loop k l ≡ true → l.named < 2 ^ k
-  named-below e = by_loop (l.named < 2 ^ k) e (λ _ _ c. rw c (pow_pos k)) (λ r. r.named)
+  pub named_below : sound_loop k l ≡ true → l.named < 2 ^ k
+  named_below e = by_loop (l.named < 2 ^ k) e (λ _ _ c. rw c (pow_pos k)) (λ r. r.named)
 
-pub tested-channel : (c : Channel) → sound_channel c ≡ true → SoundChannel c
+pub tested_channel : (c : Channel) → sound_channel c ≡ true → SoundChannel c
 unfolding sound_channel
-tested-channel c e =
+tested_channel c e =
     let p = both (sound_board c.board) (sound_loop (length c.board.insts) c.loop) e in
-    record { board = tested-sound c.board p.0; loop = p.1 }
+    record { board = tested_sound c.board p.0; loop = p.1 }
 
-pub channel-tested : (c : Channel) → SoundChannel c → sound_channel c ≡ true
+pub channel_tested : (c : Channel) → SoundChannel c → sound_channel c ≡ true
 unfolding sound_channel
-channel-tested c s = and-true (sound-tested c.board s.board) s.loop
+channel_tested c s = and_true (sound_tested c.board s.board) s.loop
 
 -- ---- a W in the row
 
-pub no-loop-sound : (k : ℕ) → sound_loop k no_loop ≡ true
+pub no_loop_sound : (k : ℕ) → sound_loop k no_loop ≡ true
 unfolding sound_loop
-no-loop-sound k = refl
+no_loop_sound k = refl
 
-name-lt : (n i named : ℕ) → named < 2 ^ n → with_name n i named < 2 ^ n
+name_lt : (n i named : ℕ) → named < 2 ^ n → with_name n i named < 2 ^ n
 unfolding with_name
-name-lt n i named h = by-test (λ (m : ℕ). m < 2 ^ n) (leb n i) (λ _. h) (λ e. mark-lt named i n (leb-false n i e) h)
+name_lt n i named h = by_test (λ (m : ℕ). m < 2 ^ n) (leb n i) (λ _. h) (λ e. mark_lt named i n (leb-false n i e) h)
 
-lower-le : (a b m : ℕ) → a ≤ m → b ≤ m → lower a b ≤ m
+lower_le : (a b m : ℕ) → a ≤ m → b ≤ m → lower a b ≤ m
 unfolding lower
-lower-le a b m h g = by-test (λ (k : ℕ). k ≤ m) (ltb a b) (λ _. h) (λ _. g)
+lower_le a b m h g = by_test (λ (k : ℕ). k ≤ m) (ltb a b) (λ _. h) (λ _. g)
 
 -- what a W has in range
 record Fine (h : Head) : Type 0 where
-  loops-low : 1 ≤ h.loops
+  loops_low : 1 ≤ h.loops
   loops : h.loops ≤ most_number
   last : h.last ≤ most_number
 
@@ -105,8 +105,8 @@ fine_of h e =
     let q = both (moment_fine h.heard) (id_fine h.id && (leb h.last most_number && within 1 most_number h.loops)) p.1 in
     let r = both (id_fine h.id) (leb h.last most_number && within 1 most_number h.loops) q.1 in
     let s = both (leb h.last most_number) (within 1 most_number h.loops) r.1 in
-    let w = within-true 1 most_number h.loops s.1 in
-    record { loops-low = w.0; loops = w.1; last = leb-true h.last most_number s.0 }
+    let w = within_true 1 most_number h.loops s.1 in
+    record { loops_low = w.0; loops = w.1; last = leb-true h.last most_number s.0 }
 
 -- a record of a loop of which all or fewer have come, in range; where it is not whole it is sound
 record Near (k : ℕ) (l : Loop) : Type 0 where
@@ -123,40 +123,40 @@ apart a b h d = go (ltb a b) refl
     go true e = ltb-true a b e
     go false e = absurd (d (omega (arith, ltb-false a b e)))
 
-near-sound : (k : ℕ) (l : Loop) → Near k l → is_whole l ≡ false → sound_loop k l ≡ true
+near_sound : (k : ℕ) (l : Loop) → Near k l → is_whole l ≡ false → sound_loop k l ≡ true
 unfolding is_whole
-near-sound k l n e = go (ltb 0 l.loops) (eqb l.come l.loops) refl refl e
+near_sound k l n e = go (ltb 0 l.loops) (eqb l.come l.loops) refl refl e
   where
     go : (s t : Bool) → ltb 0 l.loops ≡ s → eqb l.come l.loops ≡ t → s && t ≡ false → sound_loop k l ≡ true
     go true true p q e = absurd (true≢false e)
     go true false p q e =
         let d = eqb-false l.come l.loops q in
-        runs-sound k l (record { some = n.some; fewer = apart l.come l.loops n.most d; loops = n.loops; low = n.low; named = n.named })
+        runs_sound k l (record { some = n.some; fewer = apart l.come l.loops n.most d; loops = n.loops; low = n.low; named = n.named })
     go false t p q e = absurd (omega (arith, ltb-false 0 l.loops p, n.some, n.most))
 
 -- so with one more W it is dropped or near, and its lowest 369 is in range
-in-row-near : (k i : ℕ) (h : Head) (l : Loop) → head_fine h ≡ true → sound_loop k l ≡ true → (P : Loop → Type 0) → P no_loop
+in_row_near : (k i : ℕ) (h : Head) (l : Loop) → head_fine h ≡ true → sound_loop k l ≡ true → (P : Loop → Type 0) → P no_loop
     → ((m : Loop) → Near k m → P m) → P (in_row h k i l)
 unfolding in_row
-in-row-near k i h l f s P none near =
+in_row_near k i h l f s P none near =
     let w = fine_of h f in
-    by-test P (eqb h.number 1)
-    (λ _. near (begun h k i) (record { some = omega arith; most = w.loops-low; loops = w.loops; low = w.last; named = name-lt k i 0 (pow_pos k) }))
-    (λ e. by-test P (is_next h l)
+    by_test P (eqb h.number 1)
+    (λ _. near (begun h k i) (record { some = omega arith; most = w.loops_low; loops = w.loops; low = w.last; named = name_lt k i 0 (pow_pos k) }))
+    (λ e. by_test P (is_next h l)
     (λ g. by_loop k l (P (grown h k i l)) s
-    (λ c _ _. absurd (eqb-false h.number 1 e ((next-is h l g).0 ∙ ap (λ (n : ℕ). n + 1) c)))
+    (λ c _ _. absurd (eqb-false h.number 1 e ((next_is h l g).0 ∙ ap (λ (n : ℕ). n + 1) c)))
     (λ r. near (grown h k i l) (record {
       some = omega arith;
       most = omega (arith, r.fewer);
       loops = r.loops;
-      low = lower-le l.low h.last most_number r.low w.last;
-      named = name-lt k i l.named r.named;
+      low = lower_le l.low h.last most_number r.low w.last;
+      named = name_lt k i l.named r.named;
     })))
     (λ _. none))
 
-pub in-row-sound : (k i : ℕ) (h : Head) (l : Loop) → head_fine h ≡ true → sound_loop k l ≡ true → is_whole (in_row h k i l) ≡ false
+pub in_row_sound : (k i : ℕ) (h : Head) (l : Loop) → head_fine h ≡ true → sound_loop k l ≡ true → is_whole (in_row h k i l) ≡ false
     → sound_loop k (in_row h k i l) ≡ true
-in-row-sound k i h l f s = in-row-near k i h l f s (λ m. is_whole m ≡ false → sound_loop k m ≡ true) (λ _. no-loop-sound k) (λ m n. near-sound k m n)
+in_row_sound k i h l f s = in_row_near k i h l f s (λ m. is_whole m ≡ false → sound_loop k m ≡ true) (λ _. no_loop_sound k) (λ m n. near_sound k m n)
 
-pub in-row-low : (k i : ℕ) (h : Head) (l : Loop) → head_fine h ≡ true → sound_loop k l ≡ true → (in_row h k i l).low ≤ most_number
-in-row-low k i h l f s = in-row-near k i h l f s (λ m. m.low ≤ most_number) (omega arith) (λ m n. n.low)
+pub in_row_low : (k i : ℕ) (h : Head) (l : Loop) → head_fine h ≡ true → sound_loop k l ≡ true → (in_row h k i l).low ≤ most_number
+in_row_low k i h l f s = in_row_near k i h l f s (λ m. m.low ≤ most_number) (omega arith) (λ m n. n.low)

@@ -29,22 +29,22 @@ gone = record { who = 9; what = 0; action = 2; place = 5; entry = no_entry } ∷
 
 pub record LoopCases : Type 0 where
   -- 9 is Live with the bid that was queued above 1, with the W's own answer; none waits, so B is H
-  pub bid-answer : (closed 7 bid).answer ≡ 4
-  pub bid-live : (inst 9 (closed 7 bid).channel.board).waiting ≡ false
-  pub bid-book : (inst 9 (closed 7 bid).channel.board).book ≡ record { bids = level 5 ∷ []; offers = [] }
-  pub bid-base : (closed 7 bid).channel.board.B ≡ 2
-  pub bid-queue : (closed 7 bid).channel.board.queue ≡ []
-  pub bid-loop : (closed 7 bid).channel.loop ≡ no_loop
+  pub bid_answer : (closed 7 bid).answer ≡ 4
+  pub bid_live : (inst 9 (closed 7 bid).channel.board).waiting ≡ false
+  pub bid_book : (inst 9 (closed 7 bid).channel.board).book ≡ record { bids = level 5 ∷ []; offers = [] }
+  pub bid_base : (closed 7 bid).channel.board.B ≡ 2
+  pub bid_queue : (closed 7 bid).channel.board.queue ≡ []
+  pub bid_loop : (closed 7 bid).channel.loop ≡ no_loop
   -- a replay that breaks leaves it Waiting, with its reason; the queue stays, and the loop is over
-  pub gone-answer : (closed 7 gone).answer ≡ 4
-  pub gone-waits : (inst 9 (closed 7 gone).channel.board).waiting ≡ true
-  pub gone-reason : (inst 9 (closed 7 gone).channel.board).reason ≡ 1
-  pub gone-book : (inst 9 (closed 7 gone).channel.board).book ≡ empty
-  pub gone-base : (closed 7 gone).channel.board.B ≡ 0
-  pub gone-queue : length (closed 7 gone).channel.board.queue ≡ 1
-  pub gone-loop : (closed 7 gone).channel.loop ≡ no_loop
+  pub gone_answer : (closed 7 gone).answer ≡ 4
+  pub gone_waits : (inst 9 (closed 7 gone).channel.board).waiting ≡ true
+  pub gone_reason : (inst 9 (closed 7 gone).channel.board).reason ≡ 1
+  pub gone_book : (inst 9 (closed 7 gone).channel.board).book ≡ empty
+  pub gone_base : (closed 7 gone).channel.board.B ≡ 0
+  pub gone_queue : length (closed 7 gone).channel.board.queue ≡ 1
+  pub gone_loop : (closed 7 gone).channel.loop ≡ no_loop
   -- a W for 11, which is not followed, is answered so, and its loop ends for 7 and 9 all the same
-  pub other-answer : (closed 11 bid).answer ≡ 5
-  pub other-7 : inst 7 (closed 11 bid).channel.board ≡ record { id = 7; waiting = false; reason = 0; book = empty }
-  pub other-9 : (inst 9 (closed 11 bid).channel.board).book ≡ record { bids = level 5 ∷ []; offers = [] }
-  pub other-waits : waiting_in (closed 11 bid).channel.board.insts ≡ 0
+  pub other_answer : (closed 11 bid).answer ≡ 5
+  pub other_7 : inst 7 (closed 11 bid).channel.board ≡ record { id = 7; waiting = false; reason = 0; book = empty }
+  pub other_9 : (inst 9 (closed 11 bid).channel.board).book ≡ record { bids = level 5 ∷ []; offers = [] }
+  pub other_waits : waiting_in (closed 11 bid).channel.board.insts ≡ 0

@@ -11,7 +11,7 @@ use Rattle.book.specs.declared.Entry.{Entry}
 use Rattle.sums.specs.Sums.{fits}
 use Rattle.proceeds.specs.declared.Lot.{Lot}
 use Rattle.proceeds.specs.Lots.{sum_after, lot_of}
-use Rattle.proceeds.proofs.Exactly.{lots-are-exact}
+use Rattle.proceeds.proofs.Exactly.{lots_are_exact}
 use Rattle.quote.specs.declared.Quote.{Quote}
 use Rattle.quote.specs.declared.Quoted.{Quoted}
 use Rattle.quote.specs.Quotes.{quote_number}
@@ -48,31 +48,31 @@ refused r n es e z w =
     }
 
 module _ (q : Quote) (n : ℕ) (es : List Entry) where
-  sum-out : (l : Lot) → lot_of n es ≡ l → lot_number (dated q l) ≡ 35 → lot_of n es ≡ Lot.Over
-  sum-out (Lot.Is s) e h = absurd (omega arith)
-  sum-out Lot.Over e h = e
+  sum_out : (l : Lot) → lot_of n es ≡ l → lot_number (dated q l) ≡ 35 → lot_of n es ≡ Lot.Over
+  sum_out (Lot.Is s) e h = absurd (omega arith)
+  sum_out Lot.Over e h = e
 
-  only-sums : (t : Bool) → units_fine n ≡ t → lot_number (cond t (dated q (lot_of n es)) Lotted.BadQuantity) ≡ 35
+  only_sums : (t : Bool) → units_fine n ≡ t → lot_number (cond t (dated q (lot_of n es)) Lotted.BadQuantity) ≡ 35
       → (◌≡◌ {A = ℕ} 0 0) × ((units_fine n ≡ true) × ((k : ℕ) × ((k ≤ length es) × (fits (sum_after n es k) ≡ false))))
-  only-sums true u h = (refl, (u, (lots-are-exact n es).refused (sum-out (lot_of n es) refl h)))
-  only-sums false u h = absurd (omega arith)
+  only_sums true u h = (refl, (u, (lots_are_exact n es).refused (sum_out (lot_of n es) refl h)))
+  only_sums false u h = absurd (omega arith)
 
-  not-17 : (t : Bool) → lot_number (cond t (dated q (lot_of n es)) Lotted.BadQuantity) ≡ 17 → ⊥
-  not-17 true h = go (lot_of n es) h
+  not_17 : (t : Bool) → lot_number (cond t (dated q (lot_of n es)) Lotted.BadQuantity) ≡ 17 → ⊥
+  not_17 true h = go (lot_of n es) h
     where
       go : (l : Lot) → lot_number (dated q l) ≡ 17 → ⊥
       go (Lot.Is s) e = omega arith
       go Lot.Over e = omega arith
-  not-17 false h = omega arith
+  not_17 false h = omega arith
 
   all_fit : (l : Lot) → lot_of n es ≡ l → ((k : ℕ) → fits (sum_after n es k) ≡ true) → lot_number (dated q l) ≡ 0
   all_fit (Lot.Is s) e h = refl
-  all_fit Lot.Over e h = let (k, (m, w)) = (lots-are-exact n es).refused e in absurd (false≢true (sym w ∙ h k))
+  all_fit Lot.Over e h = let (k, (m, w)) = (lots_are_exact n es).refused e in absurd (false≢true (sym w ∙ h k))
 
   -- what is given is exact and dated
   sold : (l : Lot) → lot_of n es ≡ l → lot_number (dated q l) ≡ 0 → (s : Sold) × ((dated q l ≡ Lotted.Is s) × Rests q n es s)
   sold (Lot.Is x) e h =
-      let g = (lots-are-exact n es).given x e in (
+      let g = (lots_are_exact n es).given x e in (
         record { sum = x.sum; left = x.left; number = q.number; heard = q.heard },
         (
           refl,
@@ -81,8 +81,8 @@ module _ (q : Quote) (n : ℕ) (es : List Entry) where
             left = g.1;
             number = refl;
             heard = refl;
-            fit = (lots-are-exact n es).fit x e;
-            whole = rw g.1 (lots-are-exact n es).conserved;
+            fit = (lots_are_exact n es).fit x e;
+            whole = rw g.1 (lots_are_exact n es).conserved;
           },
         ),
       )
@@ -97,42 +97,42 @@ module _ (q : Quote) (n : ℕ) (es : List Entry) where
   quoted =
       record {
         quote = λ h. absurd (h refl);
-        sound = λ h. not-17 (units_fine n);
+        sound = λ h. not_17 (units_fine n);
         units = λ h t. rw t;
-        over = λ h t k w. rw (t, (lots-are-exact n es).refuses k w);
-        only = only-sums (units_fine n) refl;
+        over = λ h t k w. rw (t, (lots_are_exact n es).refuses k w);
+        only = only_sums (units_fine n) refl;
         done = λ h t w. rw t (all_fit (lot_of n es) refl w);
         given = λ h. let (s, r) = given (units_fine n) h in (q, (s, (refl, r)));
       }
 
-on-quote : (r : Quoted) (n : ℕ) (es : List Entry) → OnQuote r n es
-on-quote (Quoted.Is q) n es = quoted q n es
-on-quote Quoted.Unsound n es = refused Quoted.Unsound n es refl (λ h. omega arith) (λ h. omega arith)
-on-quote Quoted.BadArgument n es = refused Quoted.BadArgument n es refl (λ h. omega arith) (λ h. omega arith)
-on-quote Quoted.NotFollowed n es = refused Quoted.NotFollowed n es refl (λ h. omega arith) (λ h. omega arith)
-on-quote Quoted.Waiting n es = refused Quoted.Waiting n es refl (λ h. omega arith) (λ h. omega arith)
-on-quote Quoted.NothingHeard n es = refused Quoted.NothingHeard n es refl (λ h. omega arith) (λ h. omega arith)
-on-quote Quoted.BeforeHeard n es = refused Quoted.BeforeHeard n es refl (λ h. omega arith) (λ h. omega arith)
-on-quote Quoted.TooOld n es = refused Quoted.TooOld n es refl (λ h. omega arith) (λ h. omega arith)
+on_quote_lem : (r : Quoted) (n : ℕ) (es : List Entry) → OnQuote r n es
+on_quote_lem (Quoted.Is q) n es = quoted q n es
+on_quote_lem Quoted.Unsound n es = refused Quoted.Unsound n es refl (λ h. omega arith) (λ h. omega arith)
+on_quote_lem Quoted.BadArgument n es = refused Quoted.BadArgument n es refl (λ h. omega arith) (λ h. omega arith)
+on_quote_lem Quoted.NotFollowed n es = refused Quoted.NotFollowed n es refl (λ h. omega arith) (λ h. omega arith)
+on_quote_lem Quoted.Waiting n es = refused Quoted.Waiting n es refl (λ h. omega arith) (λ h. omega arith)
+on_quote_lem Quoted.NothingHeard n es = refused Quoted.NothingHeard n es refl (λ h. omega arith) (λ h. omega arith)
+on_quote_lem Quoted.BeforeHeard n es = refused Quoted.BeforeHeard n es refl (λ h. omega arith) (λ h. omega arith)
+on_quote_lem Quoted.TooOld n es = refused Quoted.TooOld n es refl (λ h. omega arith) (λ h. omega arith)
 
 -- ---- in room
-in-first : (room a : ℕ) → a ≡ 17 → in_room room a ≡ 17
-in-first room a e = rw e
+in_first : (room a : ℕ) → a ≡ 17 → in_room room a ≡ 17
+in_first room a e = rw e
 
-in-short : (room a : ℕ) → (a ≡ 17 → ⊥) → room < lot_size → in_room room a ≡ 18
-in-short room a z h = rw (ne_eqb a 17 z, lt-leb lot_size room h)
+in_short : (room a : ℕ) → (a ≡ 17 → ⊥) → room < lot_size → in_room room a ≡ 18
+in_short room a z h = rw (ne_eqb a 17 z, lt-leb lot_size room h)
 
 -- room that is long enough changes nothing
-in-long : (room a : ℕ) → lot_size ≤ room → in_room room a ≡ a
-in-long room a h = go (eqb a 17)
+in_long : (room a : ℕ) → lot_size ≤ room → in_room room a ≡ a
+in_long room a h = go (eqb a 17)
   where
     go : (t : Bool) → cond t a (cond (leb lot_size room) a 18) ≡ a
     go true = refl
     go false = rw (le-leb lot_size room h)
 
 -- an answer that is neither 17 nor 18 was given in such room
-in-only : (room a n : ℕ) → in_room room a ≡ n → (n ≡ 17 → ⊥) → (n ≡ 18 → ⊥) → (lot_size ≤ room) × (a ≡ n)
-in-only room a n e z w = go (eqb a 17) refl (leb lot_size room) refl e
+in_only : (room a n : ℕ) → in_room room a ≡ n → (n ≡ 17 → ⊥) → (n ≡ 18 → ⊥) → (lot_size ≤ room) × (a ≡ n)
+in_only room a n e z w = go (eqb a 17) refl (leb lot_size room) refl e
   where
     go : (t : Bool) → eqb a 17 ≡ t → (s : Bool) → leb lot_size room ≡ s → cond t a (cond s a 18) ≡ n → (lot_size ≤ room) × (a ≡ n)
     go true p s q h = absurd (z (sym h ∙ eqb-true a 17 p))
@@ -142,44 +142,44 @@ in-only room a n e z w = go (eqb a 17) refl (leb lot_size room) refl e
 -- ---- a call
 module _ (buying : Bool) (id n : ℕ) (now : List ℕ) (limit : ℕ) (room xs : List ℕ) where
   o : OnQuote (quoted_of id now limit xs) n (behind buying id now limit xs)
-  o = on-quote (quoted_of id now limit xs) n (behind buying id now limit xs)
+  o = on_quote_lem (quoted_of id now limit xs) n (behind buying id now limit xs)
 
   abbrev number : ℕ
   number = lot_number (on_quote (quoted_of id now limit xs) n (behind buying id now limit xs))
 
-  refused-number : (quote_number (quoted_of id now limit xs) ≡ 0 → ⊥) → number ≡ quote_number (quoted_of id now limit xs)
-  refused-number z = ap lot_number (o.quote z)
+  refused_number : (quote_number (quoted_of id now limit xs) ≡ 0 → ⊥) → number ≡ quote_number (quoted_of id now limit xs)
+  refused_number z = ap lot_number (o.quote z)
 
-  is-17 : number ≡ 17 → quote_number (quoted_of id now limit xs) ≡ 17
-  is-17 e = go (eqb (quote_number (quoted_of id now limit xs)) 0) refl
+  is_17 : number ≡ 17 → quote_number (quoted_of id now limit xs) ≡ 17
+  is_17 e = go (eqb (quote_number (quoted_of id now limit xs)) 0) refl
     where
       go : (t : Bool) → eqb (quote_number (quoted_of id now limit xs)) 0 ≡ t → quote_number (quoted_of id now limit xs) ≡ 17
       go true p = absurd (o.sound (eqb-true (quote_number (quoted_of id now limit xs)) 0 p) e)
-      go false p = sym (refused-number (eqb-false (quote_number (quoted_of id now limit xs)) 0 p)) ∙ e
+      go false p = sym (refused_number (eqb-false (quote_number (quoted_of id now limit xs)) 0 p)) ∙ e
 
   pub answers : Answers buying id n now limit room xs
   unfolding lot_answer lotted_of
   answers =
       record {
-        store = λ e. in-first (length room) number (refused-number (λ z. omega (arith, e, z)) ∙ e);
-        short = λ z h. in-short (length room) number (λ e. z (is-17 e)) h;
-        quote = λ h z. in-long (length room) number h ∙ refused-number z;
-        units = λ h z u. in-long (length room) number h ∙ ap lot_number (o.units z u);
-        over = λ h z u k w. in-long (length room) number h ∙ ap lot_number (o.over z u k w);
-        only = λ e. let (l, a) = in-only (length room) number 35 e (λ z. omega arith) (λ z. omega arith) in (l, o.only a);
-        done = λ h z u w. in-long (length room) number h ∙ o.done z u w;
+        store = λ e. in_first (length room) number (refused_number (λ z. omega (arith, e, z)) ∙ e);
+        short = λ z h. in_short (length room) number (λ e. z (is_17 e)) h;
+        quote = λ h z. in_long (length room) number h ∙ refused_number z;
+        units = λ h z u. in_long (length room) number h ∙ ap lot_number (o.units z u);
+        over = λ h z u k w. in_long (length room) number h ∙ ap lot_number (o.over z u k w);
+        only = λ e. let (l, a) = in_only (length room) number 35 e (λ z. omega arith) (λ z. omega arith) in (l, o.only a);
+        done = λ h z u w. in_long (length room) number h ∙ o.done z u w;
         given = λ e.
-            let (l, a) = in-only (length room) number 0 e (λ z. omega arith) (λ z. omega arith) in
+            let (l, a) = in_only (length room) number 0 e (λ z. omega arith) (λ z. omega arith) in
             let (q, (s, (r, (t, w)))) = o.given a in
             record { q = q; s = s; quoted = r; lotted = t; rests = w };
       }
 
-pub lots-are-ordered : LotsAreOrdered
-lots-are-ordered buying id n now limit room xs = answers buying id n now limit room xs
+pub lots_are_ordered : LotsAreOrdered
+lots_are_ordered buying id n now limit room xs = answers buying id n now limit room xs
 
 pub bounds : Bounds
 unfolding bits_of
 bounds = record { none = refl; one = refl; most = refl; above = refl; words = λ s. refl; minus = refl }
 
-pub lot-settled : LotSettled
-lot-settled buying id n now limit room xs r s ys zs a b = (a.answer ∙ sym b.answer, a.out ∙ sym b.out)
+pub lot_settled : LotSettled
+lot_settled buying id n now limit room xs r s ys zs a b = (a.answer ∙ sym b.answer, a.out ∙ sym b.out)

@@ -11,11 +11,11 @@ use borrow.Author.Tests.{ltb-true, ltb-false, le-leb, lt-leb, leb-true, ne_eqb}
 use Rattle.book.specs.declared.Entry.{Entry}
 use Rattle.book.specs.Canonical.{held_in}
 use Rattle.quote.specs.declared.Quoted.{Quoted}
-use Rattle.quote.proofs.Refused.{NotGiven, refused-is}
+use Rattle.quote.proofs.Refused.{NotGiven, refused_is}
 use Rattle.ask.specs.Ask.{room_after, bits_of, moment_words}
 use Rattle.backing.specs.Backing.{quoted_of, behind, Backs}
 use Rattle.backing.specs.declared.Backed.{Backed}
-use Rattle.backing.proofs.Laws.{quoted-is-fine}
+use Rattle.backing.proofs.Laws.{quoted_is_fine}
 use Rattle.ask.specs.Fine.{FineQuoted}
 use Rattle.proceeds.specs.declared.Lot.{Lot}
 use Rattle.proceeds.specs.Lots.{lot_of}
@@ -27,26 +27,26 @@ use Rattle.lots.specs.Rooms.{lot_size, sold_words, lot_words, in_room, FineLot, 
 
 -- what refuses the quote refuses the lot
 pub passes : (r : Quoted) (n : ℕ) (es : List Entry) → NotGiven r → Lotted.Not r ≡ on_quote r n es
-passes r n es h = sym (refused-is (λ q. cond (units_fine n) (dated q (lot_of n es)) Lotted.BadQuantity) (Lotted.Not r) r h)
+passes r n es h = sym (refused_is (λ q. cond (units_fine n) (dated q (lot_of n es)) Lotted.BadQuantity) (Lotted.Not r) r h)
 
 -- the quantity
-pub bad-units : (n : ℕ) → ltb n 1 || ltb most_units n ≡ true → units_fine n ≡ false
-bad-units n h = go (ltb n 1) refl h
+pub bad_units : (n : ℕ) → ltb n 1 || ltb most_units n ≡ true → units_fine n ≡ false
+bad_units n h = go (ltb n 1) refl h
   where
     go : (t : Bool) → ltb n 1 ≡ t → t || ltb most_units n ≡ true → units_fine n ≡ false
     go true q w = rw (lt-leb 1 n (ltb-true n 1 q))
     go false q w = rw (le-leb 1 n (ltb-false n 1 q), lt-leb n most_units (ltb-true most_units n w))
 
-pub good-units : (n : ℕ) → ltb n 1 || ltb most_units n ≡ false → units_fine n ≡ true
-good-units n h = go (ltb n 1) refl h
+pub good_units : (n : ℕ) → ltb n 1 || ltb most_units n ≡ false → units_fine n ≡ true
+good_units n h = go (ltb n 1) refl h
   where
     go : (t : Bool) → ltb n 1 ≡ t → t || ltb most_units n ≡ false → units_fine n ≡ true
     go true q w = absurd (false≢true (sym w))
     go false q w = rw (le-leb 1 n (ltb-false n 1 q), le-leb n most_units (ltb-false most_units n w))
 
 -- the lot of a quote that is given, by its quantity
-pub no-units : (q : Quote) (n : ℕ) (es : List Entry) (r : Quoted) → r ≡ Quoted.Is q → units_fine n ≡ false → Lotted.BadQuantity ≡ on_quote r n es
-no-units q n es r e t = rw (e, t)
+pub no_units : (q : Quote) (n : ℕ) (es : List Entry) (r : Quoted) → r ≡ Quoted.Is q → units_fine n ≡ false → Lotted.BadQuantity ≡ on_quote r n es
+no_units q n es r e t = rw (e, t)
 
 pub brought : (q : Quote) (n : ℕ) (es : List Entry) (r : Quoted) → r ≡ Quoted.Is q → units_fine n ≡ true → dated q (lot_of n es) ≡ on_quote r n es
 brought q n es r e t = rw (e, t)
@@ -73,8 +73,8 @@ room_for room h = go (leb lot_size room) refl h
 -- ---- the numbers
 
 -- one number, two, one, one
-pub sold-is : (l : List ℕ) (s : Sold) → set (set (sets (set l 0 s.number) 1 (moment_words s.heard)) 3 (bits_of s.sum)) 4 s.left ≡ sets l 0 (sold_words s)
-sold-is l s = refl
+pub sold_is : (l : List ℕ) (s : Sold) → set (set (sets (set l 0 s.number) 1 (moment_words s.heard)) 3 (bits_of s.sum)) 4 s.left ≡ sets l 0 (sold_words s)
+sold_is l s = refl
 
 -- a refusal writes nothing
 no_words : (l : Lotted) → ((s : Sold) → l ≡ Lotted.Is s → ⊥) → lot_words l ≡ []
@@ -94,15 +94,15 @@ pub stays : (l : Lotted) (answer : ℕ) (room : List ℕ) → (answer ≡ 0 → 
 stays l answer room h = rw (ne_eqb answer 0 h)
 
 -- ---- a lot that is given can be written
-dated-fine : (q : Quote) (l : Lot) → FineQuoted (Quoted.Is q) → FineLot (dated q l)
-dated-fine q (Lot.Is s) f = f.heard
-dated-fine q Lot.Over f = tt
+dated_fine : (q : Quote) (l : Lot) → FineQuoted (Quoted.Is q) → FineLot (dated q l)
+dated_fine q (Lot.Is s) f = f.heard
+dated_fine q Lot.Over f = tt
 
 on_fine : (r : Quoted) (n : ℕ) (es : List Entry) → FineQuoted r → FineLot (on_quote r n es)
 on_fine (Quoted.Is q) n es f = go (units_fine n)
   where
     go : (t : Bool) → FineLot (cond t (dated q (lot_of n es)) Lotted.BadQuantity)
-    go true = dated-fine q (lot_of n es) f
+    go true = dated_fine q (lot_of n es) f
     go false = tt
 on_fine Quoted.Unsound n es f = tt
 on_fine Quoted.BadArgument n es f = tt
@@ -112,15 +112,15 @@ on_fine Quoted.NothingHeard n es f = tt
 on_fine Quoted.BeforeHeard n es f = tt
 on_fine Quoted.TooOld n es f = tt
 
-pub lot-fine : (buying : Bool) (id n : ℕ) (now : List ℕ) (limit : ℕ) (xs : List ℕ) → FineLot (lotted_of buying id n now limit xs)
+pub lot_fine : (buying : Bool) (id n : ℕ) (now : List ℕ) (limit : ℕ) (xs : List ℕ) → FineLot (lotted_of buying id n now limit xs)
 unfolding lotted_of
-lot-fine buying id n now limit xs = on_fine (quoted_of id now limit xs) n (behind buying id now limit xs) (quoted-is-fine id now limit xs)
+lot_fine buying id n now limit xs = on_fine (quoted_of id now limit xs) n (behind buying id now limit xs) (quoted_is_fine id now limit xs)
 
 -- ---- a lot of what backs it
 module _ (buying : Bool) (id n : ℕ) (now : List ℕ) (limit : ℕ) (xs : List ℕ) where
-  pub lot-is : (b : Backed) → Backs buying id now limit xs b → on_quote b.quoted n (held_in b.side) ≡ lotted_of buying id n now limit xs
+  pub lot_is : (b : Backed) → Backs buying id now limit xs b → on_quote b.quoted n (held_in b.side) ≡ lotted_of buying id n now limit xs
   unfolding lotted_of
-  lot-is b k = ap (λ (q : Quoted). on_quote q n (held_in b.side)) k.quoted ∙ ap (on_quote (quoted_of id now limit xs) n) k.places
+  lot_is b k = ap (λ (q : Quoted). on_quote q n (held_in b.side)) k.quoted ∙ ap (on_quote (quoted_of id now limit xs) n) k.places
 
 pub dealt : (buying : Bool) (id n : ℕ) (now : List ℕ) (limit : ℕ) (room xs : List ℕ) (l : Lotted) (r : ℕ) (ys : List ℕ) → l ≡ lotted_of buying id n now limit xs
     → r ≡ in_room (length room) (lot_number l) → ys ≡ room_after r (lot_words l) room → Dealt buying id n now limit room xs r ys

@@ -4,14 +4,14 @@ use native.Mathlib.Omega.{arith}
 use Rattle.message.specs.Message.{numbered, snapshot, refused, told}
 use Rattle.message.specs.Laws.{ToldIsSaid, ToldFits}
 
-pub told-is-said : ToldIsSaid
+pub told_is_said : ToldIsSaid
 unfolding told
-told-is-said (numbered n heard us) f = refl
-told-is-said (snapshot h us) f = refl
-told-is-said (refused why) f = refl
+told_is_said (numbered n heard us) f = refl
+told_is_said (snapshot h us) f = refl
+told_is_said (refused why) f = refl
 
-pub told-fits : ToldFits
+pub told_fits : ToldFits
 unfolding told
-told-fits (numbered n heard us) f = f
-told-fits (snapshot h us) f = f
-told-fits (refused why) f = omega arith
+told_fits (numbered n heard us) f = f
+told_fits (snapshot h us) f = f
+told_fits (refused why) f = omega arith

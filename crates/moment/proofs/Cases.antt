@@ -10,102 +10,102 @@ use Rattle.text.specs.Text.{fixed}
 use Rattle.calendar.specs.Calendar.{leap, months, days_in, days_to, year_days, days_before, is_date, day_of}
 use Rattle.moment.specs.Moments.{date_of, two_of, minutes_of, clock_of, time_of, span, day_part, time_part, clock_text, time_text}
 use Rattle.moment.specs.Ages.{millis, age_of}
-use Rattle.moment.proofs.Aged.{age-is, minus-shift}
+use Rattle.moment.proofs.Aged.{age_is, minus_shift}
 
 -- ---- M5: 20240229 is good, 20250229 and 19000229 are not
-pub m5-2024 : date_of (50 ∷ 48 ∷ 50 ∷ 52 ∷ 48 ∷ 50 ∷ 50 ∷ 57 ∷ []) ≡ Is 739310
+pub m5_2024 : date_of (50 ∷ 48 ∷ 50 ∷ 52 ∷ 48 ∷ 50 ∷ 50 ∷ 57 ∷ []) ≡ Is 739310
 unfolding date_of digits_of is_date day_of leap months days_in days_to year_days days_before
-m5-2024 = refl
+m5_2024 = refl
 
-pub m5-2025 : date_of (50 ∷ 48 ∷ 50 ∷ 53 ∷ 48 ∷ 50 ∷ 50 ∷ 57 ∷ []) ≡ No
+pub m5_2025 : date_of (50 ∷ 48 ∷ 50 ∷ 53 ∷ 48 ∷ 50 ∷ 50 ∷ 57 ∷ []) ≡ No
 unfolding date_of digits_of is_date day_of leap months days_in days_to year_days days_before
-m5-2025 = refl
+m5_2025 = refl
 
-pub m5-1900 : date_of (49 ∷ 57 ∷ 48 ∷ 48 ∷ 48 ∷ 50 ∷ 50 ∷ 57 ∷ []) ≡ No
+pub m5_1900 : date_of (49 ∷ 57 ∷ 48 ∷ 48 ∷ 48 ∷ 50 ∷ 50 ∷ 57 ∷ []) ≡ No
 unfolding date_of digits_of is_date day_of leap months days_in days_to year_days days_before
-m5-1900 = refl
+m5_1900 = refl
 
 -- 0000 is a leap year
-pub year-zero : date_of (48 ∷ 48 ∷ 48 ∷ 48 ∷ 48 ∷ 50 ∷ 50 ∷ 57 ∷ []) ≡ Is 59
+pub year_zero : date_of (48 ∷ 48 ∷ 48 ∷ 48 ∷ 48 ∷ 50 ∷ 50 ∷ 57 ∷ []) ≡ Is 59
 unfolding date_of digits_of is_date day_of leap months days_in days_to year_days days_before
-year-zero = refl
+year_zero = refl
 
 -- the last day
-pub last-day : date_of (57 ∷ 57 ∷ 57 ∷ 57 ∷ 49 ∷ 50 ∷ 51 ∷ 49 ∷ []) ≡ Is 3652424
+pub last_day : date_of (57 ∷ 57 ∷ 57 ∷ 57 ∷ 49 ∷ 50 ∷ 51 ∷ 49 ∷ []) ≡ Is 3652424
 unfolding date_of digits_of is_date day_of leap months days_in days_to year_days days_before
-last-day = refl
+last_day = refl
 
-pub no-month-13 : date_of (50 ∷ 48 ∷ 50 ∷ 52 ∷ 49 ∷ 51 ∷ 48 ∷ 49 ∷ []) ≡ No
+pub no_month_13 : date_of (50 ∷ 48 ∷ 50 ∷ 52 ∷ 49 ∷ 51 ∷ 48 ∷ 49 ∷ []) ≡ No
 unfolding date_of digits_of is_date day_of leap months days_in days_to year_days days_before
-no-month-13 = refl
+no_month_13 = refl
 
-pub no-day-0 : date_of (50 ∷ 48 ∷ 50 ∷ 52 ∷ 48 ∷ 49 ∷ 48 ∷ 48 ∷ []) ≡ No
+pub no_day_0 : date_of (50 ∷ 48 ∷ 50 ∷ 52 ∷ 48 ∷ 49 ∷ 48 ∷ 48 ∷ []) ≡ No
 unfolding date_of digits_of is_date day_of leap months days_in days_to year_days days_before
-no-day-0 = refl
+no_day_0 = refl
 
 -- ---- times of day
 -- 13:00:00.000, and without its decimals
-pub one-oclock : (time_of (49 ∷ 51 ∷ 58 ∷ 48 ∷ 48 ∷ 58 ∷ 48 ∷ 48 ∷ 46 ∷ 48 ∷ 48 ∷ 48 ∷ []) ≡ Is 47580000) × (time_of (49 ∷ 51 ∷ 58 ∷ 48 ∷ 48 ∷ 58 ∷ 48 ∷ 48 ∷ []) ≡ Is 47580000)
+pub one_oclock : (time_of (49 ∷ 51 ∷ 58 ∷ 48 ∷ 48 ∷ 58 ∷ 48 ∷ 48 ∷ 46 ∷ 48 ∷ 48 ∷ 48 ∷ []) ≡ Is 47580000) × (time_of (49 ∷ 51 ∷ 58 ∷ 48 ∷ 48 ∷ 58 ∷ 48 ∷ 48 ∷ []) ≡ Is 47580000)
 unfolding time_of clock_of minutes_of two_of digits_of
-one-oclock = (refl, refl)
+one_oclock = (refl, refl)
 
 -- 12:00:60 is held and written again as 60
-pub second-60 : (time_of (49 ∷ 50 ∷ 58 ∷ 48 ∷ 48 ∷ 58 ∷ 54 ∷ 48 ∷ []) ≡ Is 43980000) × (time_text 43980000 ≡ 49 ∷ 50 ∷ 58 ∷ 48 ∷ 48 ∷ 58 ∷ 54 ∷ 48 ∷ 46 ∷ 48 ∷ 48 ∷ 48 ∷ [])
+pub second_60 : (time_of (49 ∷ 50 ∷ 58 ∷ 48 ∷ 48 ∷ 58 ∷ 54 ∷ 48 ∷ []) ≡ Is 43980000) × (time_text 43980000 ≡ 49 ∷ 50 ∷ 58 ∷ 48 ∷ 48 ∷ 58 ∷ 54 ∷ 48 ∷ 46 ∷ 48 ∷ 48 ∷ 48 ∷ [])
 unfolding time_of clock_of minutes_of two_of digits_of time_text clock_text fixed
-second-60 = (refl, refl)
+second_60 = (refl, refl)
 
-pub no-second-61 : time_of (49 ∷ 50 ∷ 58 ∷ 48 ∷ 48 ∷ 58 ∷ 54 ∷ 49 ∷ []) ≡ No
+pub no_second_61 : time_of (49 ∷ 50 ∷ 58 ∷ 48 ∷ 48 ∷ 58 ∷ 54 ∷ 49 ∷ []) ≡ No
 unfolding time_of clock_of minutes_of two_of digits_of
-no-second-61 = refl
+no_second_61 = refl
 
-pub no-hour-24 : time_of (50 ∷ 52 ∷ 58 ∷ 48 ∷ 48 ∷ 58 ∷ 48 ∷ 48 ∷ []) ≡ No
+pub no_hour_24 : time_of (50 ∷ 52 ∷ 58 ∷ 48 ∷ 48 ∷ 58 ∷ 48 ∷ 48 ∷ []) ≡ No
 unfolding time_of clock_of minutes_of two_of digits_of
-no-hour-24 = refl
+no_hour_24 = refl
 
-pub no-minute-60 : time_of (49 ∷ 50 ∷ 58 ∷ 54 ∷ 48 ∷ 58 ∷ 48 ∷ 48 ∷ []) ≡ No
+pub no_minute_60 : time_of (49 ∷ 50 ∷ 58 ∷ 54 ∷ 48 ∷ 58 ∷ 48 ∷ 48 ∷ []) ≡ No
 unfolding time_of clock_of minutes_of two_of digits_of
-no-minute-60 = refl
+no_minute_60 = refl
 
-pub no-two-decimals : time_of (49 ∷ 50 ∷ 58 ∷ 48 ∷ 48 ∷ 58 ∷ 48 ∷ 48 ∷ 46 ∷ 53 ∷ 48 ∷ []) ≡ No
+pub no_two_decimals : time_of (49 ∷ 50 ∷ 58 ∷ 48 ∷ 48 ∷ 58 ∷ 48 ∷ 48 ∷ 46 ∷ 53 ∷ 48 ∷ []) ≡ No
 unfolding time_of clock_of minutes_of two_of digits_of
-no-two-decimals = refl
+no_two_decimals = refl
 
-pub no-four-decimals : time_of (49 ∷ 50 ∷ 58 ∷ 48 ∷ 48 ∷ 58 ∷ 48 ∷ 48 ∷ 46 ∷ 48 ∷ 48 ∷ 48 ∷ 48 ∷ []) ≡ No
+pub no_four_decimals : time_of (49 ∷ 50 ∷ 58 ∷ 48 ∷ 48 ∷ 58 ∷ 48 ∷ 48 ∷ 46 ∷ 48 ∷ 48 ∷ 48 ∷ 48 ∷ []) ≡ No
 unfolding time_of clock_of minutes_of two_of digits_of
-no-four-decimals = refl
+no_four_decimals = refl
 
 -- ---- M13: heard at 13:00:00.000 of any day
-day-of : (d t : ℕ) → t < span → day_part (d * span + t) ≡ d
-day-of d t h = omega arith
+day_of_lem : (d t : ℕ) → t < span → day_part (d * span + t) ≡ d
+day_of_lem d t h = omega arith
 
-time-of : (d t : ℕ) → t < span → time_part (d * span + t) ≡ t
-time-of d t h = omega arith
+time_of_lem : (d t : ℕ) → t < span → time_part (d * span + t) ≡ t
+time_of_lem d t h = omega arith
 
 -- on one day, an age is that of the times
-same-day : (d a b : ℕ) → a < span → b < span → age_of (d * span + a) (d * span + b) ≡ pos (millis a) -ℤ pos (millis b)
-same-day d a b h k =
-    age-is (d * span + a) (d * span + b)
-    ∙ rw (day-of d a h, time-of d a h, day-of d b k, time-of d b k) (minus-shift (d * 86400000) (millis a) (millis b))
+same_day : (d a b : ℕ) → a < span → b < span → age_of (d * span + a) (d * span + b) ≡ pos (millis a) -ℤ pos (millis b)
+same_day d a b h k =
+    age_is (d * span + a) (d * span + b)
+    ∙ rw (day_of_lem d a h, time_of_lem d a h, day_of_lem d b k, time_of_lem d b k) (minus_shift (d * 86400000) (millis a) (millis b))
 
 -- 13:00:30.000, 13:00:30.001 and 12:59:59.999 of that day
-pub m13-quoted : (d : ℕ) → age_of (d * span + 47610000) (d * span + 47580000) ≡ pos 30000
+pub m13_quoted : (d : ℕ) → age_of (d * span + 47610000) (d * span + 47580000) ≡ pos 30000
 unfolding millis
-m13-quoted d = same-day d 47610000 47580000 (omega arith) (omega arith)
+m13_quoted d = same_day d 47610000 47580000 (omega arith) (omega arith)
 
-pub m13-old : (d : ℕ) → age_of (d * span + 47610001) (d * span + 47580000) ≡ pos 30001
+pub m13_old : (d : ℕ) → age_of (d * span + 47610001) (d * span + 47580000) ≡ pos 30001
 unfolding millis
-m13-old d = same-day d 47610001 47580000 (omega arith) (omega arith)
+m13_old d = same_day d 47610001 47580000 (omega arith) (omega arith)
 
-pub m13-ahead : (d : ℕ) → age_of (d * span + 47578999) (d * span + 47580000) ≡ negsuc 0
+pub m13_ahead : (d : ℕ) → age_of (d * span + 47578999) (d * span + 47580000) ≡ negsuc 0
 unfolding millis
-m13-ahead d = same-day d 47578999 47580000 (omega arith) (omega arith)
+m13_ahead d = same_day d 47578999 47580000 (omega arith) (omega arith)
 
 -- these are those times
-pub m13-times : (time_of (49 ∷ 51 ∷ 58 ∷ 48 ∷ 48 ∷ 58 ∷ 51 ∷ 48 ∷ 46 ∷ 48 ∷ 48 ∷ 48 ∷ []) ≡ Is 47610000) × (time_of (49 ∷ 51 ∷ 58 ∷ 48 ∷ 48 ∷ 58 ∷ 51 ∷ 48 ∷ 46 ∷ 48 ∷ 48 ∷ 49 ∷ []) ≡ Is 47610001) × (time_of (49 ∷ 50 ∷ 58 ∷ 53 ∷ 57 ∷ 58 ∷ 53 ∷ 57 ∷ 46 ∷ 57 ∷ 57 ∷ 57 ∷ []) ≡ Is 47578999)
+pub m13_times : (time_of (49 ∷ 51 ∷ 58 ∷ 48 ∷ 48 ∷ 58 ∷ 51 ∷ 48 ∷ 46 ∷ 48 ∷ 48 ∷ 48 ∷ []) ≡ Is 47610000) × (time_of (49 ∷ 51 ∷ 58 ∷ 48 ∷ 48 ∷ 58 ∷ 51 ∷ 48 ∷ 46 ∷ 48 ∷ 48 ∷ 49 ∷ []) ≡ Is 47610001) × (time_of (49 ∷ 50 ∷ 58 ∷ 53 ∷ 57 ∷ 58 ∷ 53 ∷ 57 ∷ 46 ∷ 57 ∷ 57 ∷ 57 ∷ []) ≡ Is 47578999)
 unfolding time_of clock_of minutes_of two_of digits_of
-m13-times = (refl, refl, refl)
+m13_times = (refl, refl, refl)
 
 -- 12:00:60.000 and 12:01:00.000 are two values of one age
-pub second-60-age : (d : ℕ) → age_of (d * span + 43981000) (d * span + 43980000) ≡ pos 0
+pub second_60_age : (d : ℕ) → age_of (d * span + 43981000) (d * span + 43980000) ≡ pos 0
 unfolding millis
-second-60-age d = same-day d 43981000 43980000 (omega arith) (omega arith)
+second_60_age d = same_day d 43981000 43980000 (omega arith) (omega arith)

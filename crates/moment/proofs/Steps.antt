@@ -20,66 +20,66 @@ pub rest_all : (t : List ℕ) (n : ℕ) → take (length t - n) (drop n t) ≡ d
 rest_all t n = take_all (length t - n) (drop n t) (rw length-drop (omega arith))
 
 module _ (t : List ℕ) where
-  pub no-date : (length t ≡ 8 → ⊥) → date_of t ≡ No
+  pub no_date : (length t ≡ 8 → ⊥) → date_of t ≡ No
   unfolding date_of
-  no-date h = rw (ne_eqb _ _ h)
+  no_date h = rw (ne_eqb _ _ h)
 
-  pub date-by : length t ≡ 8 → date_of t ≡ dated (digits_of 8 t)
+  pub date_by : length t ≡ 8 → date_of t ≡ dated (digits_of 8 t)
   unfolding date_of
-  date-by h = rw (eq-eqb _ _ h)
+  date_by h = rw (eq-eqb _ _ h)
 
   -- ---- HH:MM
-  pub no-minutes : (length t ≡ 5 → ⊥) → minutes_of t ≡ No
+  pub no_minutes : (length t ≡ 5 → ⊥) → minutes_of t ≡ No
   unfolding minutes_of
-  no-minutes h = rw (ne_eqb _ _ h)
+  no_minutes h = rw (ne_eqb _ _ h)
 
-  pub minutes-no-colon : length t ≡ 5 → (get_or t 2 0 ≡ 58 → ⊥) → minutes_of t ≡ No
+  pub minutes_no_colon : length t ≡ 5 → (get_or t 2 0 ≡ 58 → ⊥) → minutes_of t ≡ No
   unfolding minutes_of
-  minutes-no-colon h k = rw (eq-eqb _ _ h, ne_eqb _ _ k)
+  minutes_no_colon h k = rw (eq-eqb _ _ h, ne_eqb _ _ k)
 
-  pub minutes-by : length t ≡ 5 → get_or t 2 0 ≡ 58 → minutes_of t ≡ join 60 (two_of 23 (take 2 t)) (two_of 59 (drop 3 t))
+  pub minutes_by : length t ≡ 5 → get_or t 2 0 ≡ 58 → minutes_of t ≡ join 60 (two_of 23 (take 2 t)) (two_of 59 (drop 3 t))
   unfolding minutes_of
-  minutes-by h k = rw (eq-eqb _ _ h, eq-eqb _ _ k)
+  minutes_by h k = rw (eq-eqb _ _ h, eq-eqb _ _ k)
 
   -- ---- HH:MM:SS
-  pub no-clock : (length t ≡ 8 → ⊥) → clock_of t ≡ No
+  pub no_clock : (length t ≡ 8 → ⊥) → clock_of t ≡ No
   unfolding clock_of
-  no-clock h = rw (ne_eqb _ _ h)
+  no_clock h = rw (ne_eqb _ _ h)
 
-  pub clock-no-colon : length t ≡ 8 → (get_or t 5 0 ≡ 58 → ⊥) → clock_of t ≡ No
+  pub clock_no_colon : length t ≡ 8 → (get_or t 5 0 ≡ 58 → ⊥) → clock_of t ≡ No
   unfolding clock_of
-  clock-no-colon h k = rw (eq-eqb _ _ h, ne_eqb _ _ k)
+  clock_no_colon h k = rw (eq-eqb _ _ h, ne_eqb _ _ k)
 
-  pub clock-by : length t ≡ 8 → get_or t 5 0 ≡ 58 → clock_of t ≡ join 61 (minutes_of (take 5 t)) (two_of 60 (drop 6 t))
+  pub clock_by : length t ≡ 8 → get_or t 5 0 ≡ 58 → clock_of t ≡ join 61 (minutes_of (take 5 t)) (two_of 60 (drop 6 t))
   unfolding clock_of
-  clock-by h k = rw (eq-eqb _ _ h, eq-eqb _ _ k)
+  clock_by h k = rw (eq-eqb _ _ h, eq-eqb _ _ k)
 
   -- ---- a time of day
-  pub time-whole : length t ≡ 8 → time_of t ≡ join 1000 (clock_of t) (Is 0)
+  pub time_whole : length t ≡ 8 → time_of t ≡ join 1000 (clock_of t) (Is 0)
   unfolding time_of
-  time-whole h = rw (eq-eqb _ _ h)
+  time_whole h = rw (eq-eqb _ _ h)
 
-  pub no-time : (length t ≡ 8 → ⊥) → (length t ≡ 12 → ⊥) → time_of t ≡ No
+  pub no_time : (length t ≡ 8 → ⊥) → (length t ≡ 12 → ⊥) → time_of t ≡ No
   unfolding time_of
-  no-time h k = rw (ne_eqb _ _ h, ne_eqb _ _ k)
+  no_time h k = rw (ne_eqb _ _ h, ne_eqb _ _ k)
 
-  pub no-point : length t ≡ 12 → (get_or t 8 0 ≡ 46 → ⊥) → time_of t ≡ No
+  pub no_point : length t ≡ 12 → (get_or t 8 0 ≡ 46 → ⊥) → time_of t ≡ No
   unfolding time_of
-  no-point h k = rw (h, ne_eqb _ _ k)
+  no_point h k = rw (h, ne_eqb _ _ k)
 
-  pub time-parts : length t ≡ 12 → get_or t 8 0 ≡ 46 → time_of t ≡ join 1000 (clock_of (take 8 t)) (digits_of 3 (drop 9 t))
+  pub time_parts : length t ≡ 12 → get_or t 8 0 ≡ 46 → time_of t ≡ join 1000 (clock_of (take 8 t)) (digits_of 3 (drop 9 t))
   unfolding time_of
-  time-parts h k = rw (h, k)
+  time_parts h k = rw (h, k)
 
   -- ---- a moment
-  pub no-moment : length t < 9 → moment_of t ≡ No
+  pub no_moment : length t < 9 → moment_of t ≡ No
   unfolding moment_of
-  no-moment h = let l : length t ≤ 8 = omega arith in rw (get_or-eq_default t 0 l)
+  no_moment h = let l : length t ≤ 8 = omega arith in rw (get_or-eq_default t 0 l)
 
   pub no_minus : (get_or t 8 0 ≡ 45 → ⊥) → moment_of t ≡ No
   unfolding moment_of
   no_minus h = rw (ne_eqb _ _ h)
 
-  pub moment-by : get_or t 8 0 ≡ 45 → moment_of t ≡ join span (date_of (take 8 t)) (time_of (drop 9 t))
+  pub moment_by : get_or t 8 0 ≡ 45 → moment_of t ≡ join span (date_of (take 8 t)) (time_of (drop 9 t))
   unfolding moment_of
-  moment-by h = rw (eq-eqb _ _ h)
+  moment_by h = rw (eq-eqb _ _ h)

@@ -9,82 +9,82 @@ use borrow.Author.Tests.{ne_eqb}
 use lib.ListN.{length}
 use Rattle.orderid.specs.OrderIds.{id_bytes, word_text, packs, packed_of}
 use Rattle.orderid.specs.Words.{bytes_in}
-use Rattle.orderid.proofs.Words.{id-byte, text-zero, text-more, text-most, text-bytes}
+use Rattle.orderid.proofs.Words.{id_byte_lem, text_zero, text_more, text_most, text_bytes}
 
 -- the bytes below those that v packs
 abbrev pub onto : List ℕ → ℕ → ℕ
 onto [] v = v
 onto (b ∷ bs) v = b + 256 * onto bs v
 
-onto-zero : (bs : List ℕ) → onto bs 0 ≡ packs bs
-onto-zero [] = refl
-onto-zero (b ∷ bs) = rw (onto-zero bs)
+onto_zero : (bs : List ℕ) → onto bs 0 ≡ packs bs
+onto_zero [] = refl
+onto_zero (b ∷ bs) = rw (onto_zero bs)
 
-onto-append : (bs : List ℕ) (b v : ℕ) → onto (bs ++ (b ∷ [])) v ≡ onto bs (b + 256 * v)
-onto-append [] b v = refl
-onto-append (x ∷ bs) b v = rw (onto-append bs b v)
+onto_append : (bs : List ℕ) (b v : ℕ) → onto (bs ++ (b ∷ [])) v ≡ onto bs (b + 256 * v)
+onto_append [] b v = refl
+onto_append (x ∷ bs) b v = rw (onto_append bs b v)
 
-pub pack-all : (n : ℕ) → onto (word_text 8 n) 0 ≡ packed_of n
+pub pack_all : (n : ℕ) → onto (word_text 8 n) 0 ≡ packed_of n
 unfolding packed_of
-pack-all n = onto-zero (word_text 8 n)
+pack_all n = onto_zero (word_text 8 n)
 
-pub pack-none : (k v : ℕ) → onto (word_text k 0) v ≡ v
-pack-none k v = rw text-zero
+pub pack_none : (k v : ℕ) → onto (word_text k 0) v ≡ v
+pack_none k v = rw text_zero
 
-pub pack-over : (n v : ℕ) → onto (word_text 0 n) v ≡ v
+pub pack_over : (n v : ℕ) → onto (word_text 0 n) v ≡ v
 unfolding word_text
-pack-over n v = refl
+pack_over n v = refl
 
-pub pack-more : (k n v : ℕ) → (n ≡ 0 → ⊥) → 0 < k → onto (word_text k n) v ≡ onto (word_text (k - 1) ((n - 1) / 94)) (v * 256 + (33 + (n - 1) % 94))
-pack-more k n v h l =
+pub pack_more : (k n v : ℕ) → (n ≡ 0 → ⊥) → 0 < k → onto (word_text k n) v ≡ onto (word_text (k - 1) ((n - 1) / 94)) (v * 256 + (33 + (n - 1) % 94))
+pack_more k n v h l =
     let z : k ≡ suc (k - 1) = omega arith in
     let w : 33 + (n - 1) % 94 + 256 * v ≡ v * 256 + (33 + (n - 1) % 94) = omega arith in
-    rw (ap (λ (j : ℕ). onto (word_text j n) v) z, text-more (k - 1) n h, onto-append, w)
+    rw (ap (λ (j : ℕ). onto (word_text j n) v) z, text_more (k - 1) n h, onto_append, w)
 
 -- one byte more
-pub pack-lt : (k : ℕ) {v b : ℕ} → 0 < k → k ≤ 8 → v < 256 ^ (8 - k) → b < 256 → v * 256 + b < 256 ^ (8 - (k - 1))
-pack-lt k h m l r = let z : 8 - (k - 1) ≡ suc (8 - k) = omega arith in rw (z, pow-suc) (omega arith)
+pub pack_lt : (k : ℕ) {v b : ℕ} → 0 < k → k ≤ 8 → v < 256 ^ (8 - k) → b < 256 → v * 256 + b < 256 ^ (8 - (k - 1))
+pack_lt k h m l r = let z : 8 - (k - 1) ≡ suc (8 - k) = omega arith in rw (z, pow-suc) (omega arith)
 
-pub pack-small : (k : ℕ) {v : ℕ} → 0 < k → v < 256 ^ (8 - k) → v < 72057594037927936
-pack-small k {v} h l = let q : 8 - k ≤ 7 = omega arith in let p : 256 ^ (8 - k) ≤ 256 ^ 7 = pow-le-pow_right (omega arith) q in omega arith
+pub pack_small : (k : ℕ) {v : ℕ} → 0 < k → v < 256 ^ (8 - k) → v < 72057594037927936
+pack_small k {v} h l = let q : 8 - k ≤ 7 = omega arith in let p : 256 ^ (8 - k) ≤ 256 ^ 7 = pow-le-pow_right (omega arith) q in omega arith
 
 -- ---- out again
-bytes-zero : (k : ℕ) → bytes_in k 0 ≡ []
+bytes_zero : (k : ℕ) → bytes_in k 0 ≡ []
 unfolding bytes_in
-bytes-zero zero = refl
-bytes-zero (suc k) = refl
+bytes_zero zero = refl
+bytes_zero (suc k) = refl
 
 unpack : (k : ℕ) (t : List ℕ) → length t ≤ k → id_bytes t ≡ true → bytes_in k (packs t) ≡ t
 unfolding bytes_in
-unpack k [] l h = bytes-zero k
+unpack k [] l h = bytes_zero k
 unpack zero (b ∷ t) l h = absurd (omega arith)
 unpack (suc k) (b ∷ t) l h =
-    let i = id-byte b t h in
+    let i = id_byte_lem b t h in
     let m : (b + 256 * packs t) % 256 ≡ b = omega (arith, i.0) in
     let d : (b + 256 * packs t) / 256 ≡ packs t = omega (arith, i.0) in
     rw (ne_eqb (b + 256 * packs t) 0 (λ e. omega (arith, i.0)), m, d, unpack k t (omega arith) i.1)
 
 -- a packed word has its bytes
-pub packed-bytes : (n : ℕ) → bytes_in 8 (packed_of n) ≡ word_text 8 n
+pub packed_bytes : (n : ℕ) → bytes_in 8 (packed_of n) ≡ word_text 8 n
 unfolding packed_of
-packed-bytes n = unpack 8 (word_text 8 n) (text-most 8 n) (text-bytes 8 n)
+packed_bytes n = unpack 8 (word_text 8 n) (text_most 8 n) (text_bytes 8 n)
 
 -- ---- the bytes of a number, one by one
-pub bytes-none : (k v : ℕ) → v ≡ 0 → bytes_in k v ≡ []
-bytes-none k v h = rw h (bytes-zero k)
+pub bytes_none : (k v : ℕ) → v ≡ 0 → bytes_in k v ≡ []
+bytes_none k v h = rw h (bytes_zero k)
 
-pub bytes-any : (k v : ℕ) → (v ≡ 0 → ⊥) → v < 256 ^ k → 0 < k
-bytes-any zero v h l = absurd (h (omega arith))
-bytes-any (suc k) v h l = omega arith
+pub bytes_any : (k v : ℕ) → (v ≡ 0 → ⊥) → v < 256 ^ k → 0 < k
+bytes_any zero v h l = absurd (h (omega arith))
+bytes_any (suc k) v h l = omega arith
 
-pub bytes-more : (k j v : ℕ) → (v ≡ 0 → ⊥) → k ≡ j + 1 → bytes_in k v ≡ v % 256 ∷ bytes_in j (v / 256)
+pub bytes_more : (k j v : ℕ) → (v ≡ 0 → ⊥) → k ≡ j + 1 → bytes_in k v ≡ v % 256 ∷ bytes_in j (v / 256)
 unfolding bytes_in
-bytes-more zero j v h q = absurd (omega arith)
-bytes-more (suc k) j v h q = let z : k ≡ j = omega arith in rw (ne_eqb v 0 h, z)
+bytes_more zero j v h q = absurd (omega arith)
+bytes_more (suc k) j v h q = let z : k ≡ j = omega arith in rw (ne_eqb v 0 h, z)
 
-pub bytes-less : (k j v : ℕ) → k ≡ j + 1 → v < 256 ^ k → v / 256 < 256 ^ j
-bytes-less zero j v q l = absurd (omega arith)
-bytes-less (suc k) j v q l =
+pub bytes_less : (k j v : ℕ) → k ≡ j + 1 → v < 256 ^ k → v / 256 < 256 ^ j
+bytes_less zero j v q l = absurd (omega arith)
+bytes_less (suc k) j v q l =
     let z : k ≡ j = omega arith in
     let m : v < 256 ^ k * 256 = rw pow-suc at l in
     rw (← z) (omega arith)

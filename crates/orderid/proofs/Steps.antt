@@ -13,7 +13,7 @@ use Rattle.orderid.specs.OrderIds.{id_bytes, word_from, is_id, id_of}
 use Rattle.orderid.specs.declared.OrderId.{OrderId}
 use Rattle.orderid.specs.declared.Word.{Word}
 use Rattle.orderid.specs.declared.Word.TheVariants.{Is, No}
-use Rattle.orderid.proofs.Words.{bytes-append}
+use Rattle.orderid.proofs.Words.{bytes_append}
 
 module _ (s : List ℕ) (i v : ℕ) (in-text : i < length s) where
   pub low : get_or s i 0 < 33 → word_rest v (drop i s) ≡ No
@@ -42,10 +42,10 @@ unfolding id_of is_id
 long t h = rw (le-leb 1 (length t) (omega arith), lt-leb (length t) 16 h)
 
 module _ (t : List ℕ) (some : (length t ≡ 0 → ⊥)) (most : length t ≤ 16) where
-  pub by-words : id_of t ≡ joined (word_of (take 8 t)) (word_of (drop 8 t))
+  pub by_words_lem : id_of t ≡ joined (word_of (take 8 t)) (word_of (drop 8 t))
   unfolding id_of is_id word_of
-  by-words =
-      rw (le-leb 1 (length t) (omega arith), le-leb (length t) 16 most, sym (ap id_bytes (take-append-drop 8 t)) ∙ bytes-append (take 8 t) (drop 8 t))
+  by_words_lem =
+      rw (le-leb 1 (length t) (omega arith), le-leb (length t) 16 most, sym (ap id_bytes (take-append-drop 8 t)) ∙ bytes_append (take 8 t) (drop 8 t))
       (go (id_bytes (take 8 t)) (id_bytes (drop 8 t)) (word_from 0 (take 8 t)) (word_from 0 (drop 8 t)))
     where
       go : (x y : Bool) (a b : ℕ) → cond (x && y) (OrderId.Is a b) OrderId.No ≡ joined (cond x (Is a) No) (cond y (Is b) No)
@@ -55,7 +55,7 @@ module _ (t : List ℕ) (some : (length t ≡ 0 → ⊥)) (most : length t ≤ 1
 
   pub one_word : length t ≤ 8 → id_of t ≡ joined (word_of t) (Is 0)
   unfolding word_of
-  one_word h = by-words ∙ rw (take_all 8 t h, drop_of_length-le t h)
+  one_word h = by_words_lem ∙ rw (take_all 8 t h, drop_of_length-le t h)
 
 -- a part of a slice from a place to its end
 pub rest_all : (t : List ℕ) (n : ℕ) → take (length t - n) (drop n t) ≡ drop n t

@@ -7,31 +7,31 @@ use lib.IntN.{ℤ, pos, negsuc, nat_abs}
 use mir.Syntax.{w64}
 use mir.Val.{SFits}
 use Rattle.text.specs.Text.{decimal, Wrote}
-use Rattle.text.proofs.Stores.{and_then, as-text}
+use Rattle.text.proofs.Stores.{and_then, as_text}
 use Rattle.price.specs.Price.{top}
 use Rattle.chain.specs.Fields.{Field, field}
 use Rattle.chain.specs.Bytes.{field_bytes, bytes_of}
-use Rattle.frame.proofs.Well.{bytes-append}
+use Rattle.frame.proofs.Well.{bytes_append}
 
-pub a-field : {l m n p : List ℕ} {a b c d : ℕ} (t : ℕ) (v : List ℕ) → Wrote l a (decimal t ++ (61 ∷ [])) m b → Wrote m b v n c → Wrote n c (1 ∷ []) p d
+pub a_field : {l m n p : List ℕ} {a b c d : ℕ} (t : ℕ) (v : List ℕ) → Wrote l a (decimal t ++ (61 ∷ [])) m b → Wrote m b v n c → Wrote n c (1 ∷ []) p d
     → Wrote l a (field_bytes (field t v)) p d
 unfolding field_bytes
-a-field t v x y z = as-text (append_assoc (decimal t) (61 ∷ []) (v ++ (1 ∷ []))) (and_then x (and_then y z))
+a_field t v x y z = as_text (append_assoc (decimal t) (61 ∷ []) (v ++ (1 ∷ []))) (and_then x (and_then y z))
 
-pub last-field : {l m : List ℕ} {a b : ℕ} (f : Field) → Wrote l a (field_bytes f) m b → Wrote l a (bytes_of (f ∷ [])) m b
+pub last_field : {l m : List ℕ} {a b : ℕ} (f : Field) → Wrote l a (field_bytes f) m b → Wrote l a (bytes_of (f ∷ [])) m b
 unfolding bytes_of
-last-field f x = as-text (sym (append-nil (field_bytes f))) x
+last_field f x = as_text (sym (append-nil (field_bytes f))) x
 
 pub next_field : {l m n : List ℕ} {a b c : ℕ} (f : Field) (fs : List Field) → Wrote l a (field_bytes f) m b → Wrote m b (bytes_of fs) n c
     → Wrote l a (bytes_of (f ∷ fs)) n c
 unfolding bytes_of
 next_field f fs x y = and_then x y
 
-pub more-fields : {l m n : List ℕ} {a b c : ℕ} (fs gs : List Field) → Wrote l a (bytes_of fs) m b → Wrote m b (bytes_of gs) n c
+pub more_fields : {l m n : List ℕ} {a b c : ℕ} (fs gs : List Field) → Wrote l a (bytes_of fs) m b → Wrote m b (bytes_of gs) n c
     → Wrote l a (bytes_of (fs ++ gs)) n c
-more-fields fs gs x y = as-text (sym (bytes-append fs gs)) (and_then x y)
+more_fields fs gs x y = as_text (sym (bytes_append fs gs)) (and_then x y)
 
 -- a price in range fits 64 bits
-pub price-fits : (p : ℤ) → nat_abs p < top → SFits w64 p
-price-fits (pos n) h = record { sfits = omega arith }
-price-fits (negsuc n) h = record { sfits = omega arith }
+pub price_fits : (p : ℤ) → nat_abs p < top → SFits w64 p
+price_fits (pos n) h = record { sfits = omega arith }
+price_fits (negsuc n) h = record { sfits = omega arith }

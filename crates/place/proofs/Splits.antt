@@ -8,7 +8,7 @@ use borrow.Author.Tests.{eq-eqb, ne_eqb}
 use Rattle.chain.specs.Fields.{Field}
 use Rattle.tags.specs.Tags.{tidy, up_to, onward}
 use Rattle.tags.specs.Slots.{below, between}
-use Rattle.tags.proofs.Tidiness.{fits, tidy-stray}
+use Rattle.tags.proofs.Tidiness.{fits, tidy_stray}
 use Rattle.place.specs.Places.{Split}
 
 module _ (stop named low high : ℕ) where
@@ -18,18 +18,18 @@ module _ (stop named low high : ℕ) where
       cond (tidy (below named) (between low high) (e ++ up_to stop fs)) (some (record { inside = e ++ up_to stop fs; rest = onward stop fs })) none
 
   module _ (e : List Field) (t : tidy (below named) (between low high) e ≡ true) where
-    pub split-end : split_from e [] ≡ some (record { inside = e; rest = [] })
+    pub split_end : split_from e [] ≡ some (record { inside = e; rest = [] })
     unfolding up_to onward
-    split-end = rw (append-nil, t)
+    split_end = rw (append-nil, t)
 
-    pub split-stop : (f : Field) (fs : List Field) → f.tag ≡ stop → split_from e (f ∷ fs) ≡ some (record { inside = e; rest = f ∷ fs })
+    pub split_stop : (f : Field) (fs : List Field) → f.tag ≡ stop → split_from e (f ∷ fs) ≡ some (record { inside = e; rest = f ∷ fs })
     unfolding up_to onward
-    split-stop f fs q = rw (eq-eqb f.tag stop q, append-nil, t)
+    split_stop f fs q = rw (eq-eqb f.tag stop q, append-nil, t)
 
-    pub split-stray : (f : Field) (fs : List Field) → (f.tag ≡ stop → ⊥) → fits (below named) (between low high) e f ≡ false → split_from e (f ∷ fs) ≡ none
+    pub split_stray : (f : Field) (fs : List Field) → (f.tag ≡ stop → ⊥) → fits (below named) (between low high) e f ≡ false → split_from e (f ∷ fs) ≡ none
     unfolding up_to
-    split-stray f fs q h = rw (ne_eqb f.tag stop q, tidy-stray (below named) (between low high) e f (up_to stop fs) h)
+    split_stray f fs q h = rw (ne_eqb f.tag stop q, tidy_stray (below named) (between low high) e f (up_to stop fs) h)
 
-    pub split-more : (f : Field) (fs : List Field) → (f.tag ≡ stop → ⊥) → split_from e (f ∷ fs) ≡ split_from (e ++ (f ∷ [])) fs
+    pub split_more : (f : Field) (fs : List Field) → (f.tag ≡ stop → ⊥) → split_from e (f ∷ fs) ≡ split_from (e ++ (f ∷ [])) fs
     unfolding up_to onward
-    split-more f fs q = rw (ne_eqb f.tag stop q, append_assoc e (f ∷ []) (up_to stop fs))
+    split_more f fs q = rw (ne_eqb f.tag stop q, append_assoc e (f ∷ []) (up_to stop fs))

@@ -13,9 +13,9 @@ use Rattle.position.specs.declared.Top.{Top}
 -- ---- an entry
 module _ (depth : ℕ) (t : Top) (next : Next) (v : Values) where
   -- in X no position is looked at
-  pub next-x : t.first ≡ 279 → entry_next depth t next v ≡ entry_in_x depth v
+  pub next_x : t.first ≡ 279 → entry_next depth t next v ≡ entry_in_x depth v
   unfolding entry_next entry_in at_next
-  next-x q = rw (eq-eqb t.first 279 q) (go (entry_in_x depth v))
+  next_x q = rw (eq-eqb t.first 279 q) (go (entry_in_x depth v))
     where
       go : (o : Option (Option Update)) → o >>= at_next t next ≡ o
       go none = refl
@@ -23,22 +23,22 @@ module _ (depth : ℕ) (t : Top) (next : Next) (v : Values) where
       go (some (some u)) = rw (eq-eqb t.first 279 q)
 
   module _ (q : t.first ≡ 279 → ⊥) where
-    in-w : entry_next depth t next v ≡ entry_in_w depth t.id v >>= at_next t next
+    in_w_lem : entry_next depth t next v ≡ entry_in_w depth t.id v >>= at_next t next
     unfolding entry_next entry_in
-    in-w = rw (ne_eqb t.first 279 q)
+    in_w_lem = rw (ne_eqb t.first 279 q)
 
-    pub next-bad : entry_in_w depth t.id v ≡ none → entry_next depth t next v ≡ none
-    next-bad h = in-w ∙ rw h
+    pub next_bad : entry_in_w depth t.id v ≡ none → entry_next depth t next v ≡ none
+    next_bad h = in_w_lem ∙ rw h
 
-    pub next-passed : entry_in_w depth t.id v ≡ some none → entry_next depth t next v ≡ some none
+    pub next_passed : entry_in_w depth t.id v ≡ some none → entry_next depth t next v ≡ some none
     unfolding at_next
-    next-passed h = in-w ∙ rw h
+    next_passed h = in_w_lem ∙ rw h
 
     module _ (u : Update) (h : entry_in_w depth t.id v ≡ some (some u)) where
-      pub next-right : u.place ≡ next_on next u.what → entry_next depth t next v ≡ some (some u)
+      pub next_right : u.place ≡ next_on next u.what → entry_next depth t next v ≡ some (some u)
       unfolding at_next
-      next-right e = in-w ∙ rw (h, ne_eqb t.first 279 q, eq-eqb u.place (next_on next u.what) e)
+      next_right e = in_w_lem ∙ rw (h, ne_eqb t.first 279 q, eq-eqb u.place (next_on next u.what) e)
 
-      pub next-wrong : (u.place ≡ next_on next u.what → ⊥) → entry_next depth t next v ≡ none
+      pub next_wrong : (u.place ≡ next_on next u.what → ⊥) → entry_next depth t next v ≡ none
       unfolding at_next
-      next-wrong e = in-w ∙ rw (h, ne_eqb t.first 279 q, ne_eqb u.place (next_on next u.what) e)
+      next_wrong e = in_w_lem ∙ rw (h, ne_eqb t.first 279 q, ne_eqb u.place (next_on next u.what) e)

@@ -26,22 +26,22 @@ unfolding price_of amount_of fraction_of digits_of
 m3 = refl
 
 -- M4: `1.` and 9 decimals are refused
-pub m4-point : price_of (49 ∷ 46 ∷ []) ≡ Priced.No
+pub m4_point : price_of (49 ∷ 46 ∷ []) ≡ Priced.No
 unfolding price_of amount_of fraction_of digits_of
-m4-point = refl
+m4_point = refl
 
-pub m4-many : price_of (49 ∷ 46 ∷ 49 ∷ 50 ∷ 51 ∷ 52 ∷ 53 ∷ 54 ∷ 55 ∷ 56 ∷ 57 ∷ []) ≡ Priced.No
+pub m4_many : price_of (49 ∷ 46 ∷ 49 ∷ 50 ∷ 51 ∷ 52 ∷ 53 ∷ 54 ∷ 55 ∷ 56 ∷ 57 ∷ []) ≡ Priced.No
 unfolding price_of amount_of fraction_of digits_of
-m4-many = refl
+m4_many = refl
 
 -- 0 is written as 0, and -0.5 as -0.5
-pub writes-zero : price_text (pos 0) ≡ 48 ∷ []
+pub writes_zero : price_text (pos 0) ≡ 48 ∷ []
 unfolding price_text amount_text fraction_text decimal width_of width_to fixed
-writes-zero = refl
+writes_zero = refl
 
-pub writes-half : price_text (negsuc 49999999) ≡ 45 ∷ 48 ∷ 46 ∷ 53 ∷ []
+pub writes_half : price_text (negsuc 49999999) ≡ 45 ∷ 48 ∷ 46 ∷ 53 ∷ []
 unfolding price_text amount_text fraction_text decimals decimal width_of width_to fixed
-writes-half = refl
+writes_half = refl
 
 -- the greatest price and its negative, every digit a 9, are read, and written as they were read
 abbrev nines : List ℕ
@@ -55,10 +55,10 @@ pub least : price_of (45 ∷ nines) ≡ Priced.Is (negsuc (top - 2))
 unfolding price_of amount_of fraction_of digits_of
 least = refl
 
-pub writes-greatest : price_text (pos (top - 1)) ≡ nines
+pub writes_greatest : price_text (pos (top - 1)) ≡ nines
 unfolding price_text amount_text fraction_text decimals decimal width_of width_to fixed
-writes-greatest = refl
+writes_greatest = refl
 
-pub writes-least : price_text (negsuc (top - 2)) ≡ 45 ∷ nines
+pub writes_least : price_text (negsuc (top - 2)) ≡ 45 ∷ nines
 unfolding price_text amount_text fraction_text decimals decimal width_of width_to fixed
-writes-least = refl
+writes_least = refl

@@ -15,7 +15,7 @@ use lib.Seq.{drop-cons, drop-length, take_all}
 use Rattle.digits.specs.Digits.{digits_of}
 use Rattle.digits.specs.declared.Number.{Number}
 use Rattle.digits.specs.declared.Number.TheVariants.{Is, No}
-use Rattle.digits.proofs.Width.{below, digits-width}
+use Rattle.digits.proofs.Width.{below, digits_width}
 use Rattle.price.specs.declared.Priced.{Priced}
 use Rattle.price.specs.Price.{most_wholes, most_decimals, unit, top, ahead, scaled, fraction_of, joined, amount_of, minus, plus, price_of}
 
@@ -39,95 +39,95 @@ pub no_fraction : (s : List ℕ) (p : ℕ) → p ≡ length s → fraction_of (d
 unfolding fraction_of
 no_fraction s p q = rw (q, drop-length)
 
-pub some-fraction : (s : List ℕ) (p : ℕ) → p < length s → fraction_of (drop p s) ≡ scaled (most_decimals - (length s - (p + 1))) (digits_of most_decimals (drop (p + 1) s))
+pub some_fraction : (s : List ℕ) (p : ℕ) → p < length s → fraction_of (drop p s) ≡ scaled (most_decimals - (length s - (p + 1))) (digits_of most_decimals (drop (p + 1) s))
 unfolding fraction_of
-some-fraction s p l = simp (drop-cons s p 0 l, add-one, length-drop)
+some_fraction s p l = simp (drop-cons s p 0 l, add-one, length-drop)
 
 module _ (s : List ℕ) (p : ℕ) (point : p ≡ ahead 46 s) where
-  amount-parts : amount_of s ≡ joined (digits_of most_wholes (take p s)) (fraction_of (drop p s))
+  amount_parts : amount_of s ≡ joined (digits_of most_wholes (take p s)) (fraction_of (drop p s))
   unfolding amount_of
-  amount-parts = rw point
+  amount_parts = rw point
 
-  pub amount-no : digits_of most_wholes (take p s) ≡ No → amount_of s ≡ No
-  amount-no a = rw (amount-parts, a)
+  pub amount_no : digits_of most_wholes (take p s) ≡ No → amount_of s ≡ No
+  amount_no a = rw (amount_parts, a)
 
-  pub amount-whole : (w : ℕ) → digits_of most_wholes (take p s) ≡ Is w → p ≡ length s → amount_of s ≡ Is (w * unit)
-  amount-whole w a q = rw (amount-parts, a, no_fraction s p q, add-zero)
+  pub amount_whole : (w : ℕ) → digits_of most_wholes (take p s) ≡ Is w → p ≡ length s → amount_of s ≡ Is (w * unit)
+  amount_whole w a q = rw (amount_parts, a, no_fraction s p q, add-zero)
 
-  pub amount-half : (w : ℕ) → digits_of most_wholes (take p s) ≡ Is w → p < length s → digits_of most_decimals (drop (p + 1) s) ≡ No → amount_of s ≡ No
-  amount-half w a l b = rw (amount-parts, a, some-fraction s p l, b)
+  pub amount_half : (w : ℕ) → digits_of most_wholes (take p s) ≡ Is w → p < length s → digits_of most_decimals (drop (p + 1) s) ≡ No → amount_of s ≡ No
+  amount_half w a l b = rw (amount_parts, a, some_fraction s p l, b)
 
-  pub amount-both : (w f : ℕ) → digits_of most_wholes (take p s) ≡ Is w → p < length s → digits_of most_decimals (drop (p + 1) s) ≡ Is f
+  pub amount_both : (w f : ℕ) → digits_of most_wholes (take p s) ≡ Is w → p < length s → digits_of most_decimals (drop (p + 1) s) ≡ Is f
       → amount_of s ≡ Is (w * unit + f * 10 ^ (most_decimals - (length s - (p + 1))))
-  amount-both w f a l b = rw (amount-parts, a, some-fraction s p l, b)
+  amount_both w f a l b = rw (amount_parts, a, some_fraction s p l, b)
 
 -- n digits after the point are below a unit, whatever n
-pub scaled-lt : (n f : ℕ) → n ≤ most_decimals → f < 10 ^ n → f * 10 ^ (most_decimals - n) < unit
-scaled-lt n f h l =
+pub scaled_lt : (n f : ℕ) → n ≤ most_decimals → f < 10 ^ n → f * 10 ^ (most_decimals - n) < unit
+scaled_lt n f h l =
     let q : n + (most_decimals - n) ≡ most_decimals = omega arith in
     let p : f * 10 ^ (most_decimals - n) < 10 ^ n * 10 ^ (most_decimals - n) = mul-lt-mul_of_pos_right l (one-le-pow (most_decimals - n) 10 (omega arith)) in
     rw (← pow-add 10 n (most_decimals - n), q) at p
 
-pub fraction-lt : (s : List ℕ) (p f m : ℕ) → digits_of most_decimals (drop (p + 1) s) ≡ Is f → m ≡ 10 ^ (most_decimals - (length s - (p + 1))) → f * m < unit
-fraction-lt s p f m a q =
-    let w = digits-width most_decimals (drop (p + 1) s) a in
+pub fraction_lt : (s : List ℕ) (p f m : ℕ) → digits_of most_decimals (drop (p + 1) s) ≡ Is f → m ≡ 10 ^ (most_decimals - (length s - (p + 1))) → f * m < unit
+fraction_lt s p f m a q =
+    let w = digits_width most_decimals (drop (p + 1) s) a in
     let l : length (drop (p + 1) s) ≡ length s - (p + 1) = length-drop (p + 1) s in
-    rw (q, ← l) (scaled-lt (length (drop (p + 1) s)) f w.0 w.1)
+    rw (q, ← l) (scaled_lt (length (drop (p + 1) s)) f w.0 w.1)
 
 -- the parts of a signed price
-pub price-none : (s : List ℕ) → length s ≡ 0 → price_of s ≡ Priced.No
+pub price_none : (s : List ℕ) → length s ≡ 0 → price_of s ≡ Priced.No
 unfolding price_of
-price-none [] h = refl
-price-none (b ∷ bs) h = absurd (omega arith)
+price_none [] h = refl
+price_none (b ∷ bs) h = absurd (omega arith)
 
-pub price-minus : (s : List ℕ) → 0 < length s → get_or s 0 0 ≡ 45 → price_of s ≡ minus (amount_of (drop 1 s))
+pub price_minus : (s : List ℕ) → 0 < length s → get_or s 0 0 ≡ 45 → price_of s ≡ minus (amount_of (drop 1 s))
 unfolding price_of
-price-minus [] l h = absurd (omega arith)
-price-minus (b ∷ bs) l h = simp (eq-eqb b 45 h)
+price_minus [] l h = absurd (omega arith)
+price_minus (b ∷ bs) l h = simp (eq-eqb b 45 h)
 
-pub price-plus : (s : List ℕ) → 0 < length s → (get_or s 0 0 ≡ 45 → ⊥) → price_of s ≡ plus (amount_of s)
+pub price_plus : (s : List ℕ) → 0 < length s → (get_or s 0 0 ≡ 45 → ⊥) → price_of s ≡ plus (amount_of s)
 unfolding price_of
-price-plus [] l h = absurd (omega arith)
-price-plus (b ∷ bs) l h = simp (ne_eqb b 45 h)
+price_plus [] l h = absurd (omega arith)
+price_plus (b ∷ bs) l h = simp (ne_eqb b 45 h)
 
 -- an amount is below `top`, and so is a price from 0
 scaled_small : (r : Number) (n v : ℕ) → ((f : ℕ) → r ≡ Is f → (n ≤ most_decimals) × (f < 10 ^ n)) → scaled (most_decimals - n) r ≡ Is v → v < unit
-scaled_small (Is f) n v h q = let a = h f refl in let e : f * 10 ^ (most_decimals - n) ≡ v = cc in omega (arith, scaled-lt n f a.0 a.1)
+scaled_small (Is f) n v h q = let a = h f refl in let e : f * 10 ^ (most_decimals - n) ≡ v = cc in omega (arith, scaled_lt n f a.0 a.1)
 scaled_small No n v h q = let z : ◌≡◌ {A = ℕ} 0 1 = cc in absurd (omega arith)
 
-fraction-small : (bs : List ℕ) (v : ℕ) → fraction_of bs ≡ Is v → v < unit
+fraction_small : (bs : List ℕ) (v : ℕ) → fraction_of bs ≡ Is v → v < unit
 unfolding fraction_of
-fraction-small [] v q = let e : 0 ≡ v = cc in omega arith
-fraction-small (b ∷ bs) v q = scaled_small (digits_of most_decimals bs) (length bs) v (λ f e. digits-width most_decimals bs e) q
+fraction_small [] v q = let e : 0 ≡ v = cc in omega arith
+fraction_small (b ∷ bs) v q = scaled_small (digits_of most_decimals bs) (length bs) v (λ f e. digits_width most_decimals bs e) q
 
 joined_small : (a b : Number) (v : ℕ) → ((f : ℕ) → a ≡ Is f → f < 10 ^ most_wholes) → ((f : ℕ) → b ≡ Is f → f < unit) → joined a b ≡ Is v → v < top
 joined_small (Is a) (Is b) v h k q = let e : a * unit + b ≡ v = cc in omega (arith, h a refl, k b refl)
 joined_small (Is a) No v h k q = let z : ◌≡◌ {A = ℕ} 0 1 = cc in absurd (omega arith)
 joined_small No b v h k q = let z : ◌≡◌ {A = ℕ} 0 1 = cc in absurd (omega arith)
 
-pub amount-small : (bs : List ℕ) (v : ℕ) → amount_of bs ≡ Is v → v < top
+pub amount_small : (bs : List ℕ) (v : ℕ) → amount_of bs ≡ Is v → v < top
 unfolding amount_of
-amount-small bs v q =
-    joined_small (digits_of most_wholes (take (ahead 46 bs) bs)) (fraction_of (drop (ahead 46 bs) bs)) v (λ f e. below most_wholes (take (ahead 46 bs) bs) e) (λ f e. fraction-small (drop (ahead 46 bs) bs) f e) q
+amount_small bs v q =
+    joined_small (digits_of most_wholes (take (ahead 46 bs) bs)) (fraction_of (drop (ahead 46 bs) bs)) v (λ f e. below most_wholes (take (ahead 46 bs) bs) e) (λ f e. fraction_small (drop (ahead 46 bs) bs) f e) q
 
 abs_neg : (n : ℕ) → nat_abs (neg_ℤ (pos n)) ≡ n
 abs_neg zero = refl
 abs_neg (suc n) = refl
 
-plus-small : (r : Number) (p : ℤ) → ((v : ℕ) → r ≡ Is v → v < top) → plus r ≡ Priced.Is p → nat_abs p < top
-plus-small (Is n) p h q = let e : pos n ≡ p = cc in rw (← e) (h n refl)
-plus-small No p h q = let z : ◌≡◌ {A = ℕ} 0 1 = cc in absurd (omega arith)
+plus_small : (r : Number) (p : ℤ) → ((v : ℕ) → r ≡ Is v → v < top) → plus r ≡ Priced.Is p → nat_abs p < top
+plus_small (Is n) p h q = let e : pos n ≡ p = cc in rw (← e) (h n refl)
+plus_small No p h q = let z : ◌≡◌ {A = ℕ} 0 1 = cc in absurd (omega arith)
 
-minus-small : (r : Number) (p : ℤ) → ((v : ℕ) → r ≡ Is v → v < top) → minus r ≡ Priced.Is p → nat_abs p < top
-minus-small (Is n) p h q = let e : neg_ℤ (pos n) ≡ p = cc in rw (← e, abs_neg) (h n refl)
-minus-small No p h q = let z : ◌≡◌ {A = ℕ} 0 1 = cc in absurd (omega arith)
+minus_small : (r : Number) (p : ℤ) → ((v : ℕ) → r ≡ Is v → v < top) → minus r ≡ Priced.Is p → nat_abs p < top
+minus_small (Is n) p h q = let e : neg_ℤ (pos n) ≡ p = cc in rw (← e, abs_neg) (h n refl)
+minus_small No p h q = let z : ◌≡◌ {A = ℕ} 0 1 = cc in absurd (omega arith)
 
 -- every price that is read is below `top`, and above its negative
-pub price-small : (bs : List ℕ) (p : ℤ) → price_of bs ≡ Priced.Is p → nat_abs p < top
+pub price_small : (bs : List ℕ) (p : ℤ) → price_of bs ≡ Priced.Is p → nat_abs p < top
 unfolding price_of
-price-small [] p q = let z : ◌≡◌ {A = ℕ} 0 1 = cc in absurd (omega arith)
-price-small (b ∷ bs) p q = go (eqb b 45) q
+price_small [] p q = let z : ◌≡◌ {A = ℕ} 0 1 = cc in absurd (omega arith)
+price_small (b ∷ bs) p q = go (eqb b 45) q
   where
     go : (t : Bool) → cond t (minus (amount_of bs)) (plus (amount_of (b ∷ bs))) ≡ Priced.Is p → nat_abs p < top
-    go true e = minus-small (amount_of bs) p (λ v. amount-small bs v) e
-    go false e = plus-small (amount_of (b ∷ bs)) p (λ v. amount-small (b ∷ bs) v) e
+    go true e = minus_small (amount_of bs) p (λ v. amount_small bs v) e
+    go false e = plus_small (amount_of (b ∷ bs)) p (λ v. amount_small (b ∷ bs) v) e

@@ -4,9 +4,9 @@ use Rattle.sums.specs.Sums.{fits}
 use Rattle.proceeds.specs.Lots.{units_of, left_of, value_of, all_fit, lot_of}
 use Rattle.proceeds.specs.Cases.{LotCases}
 
-pub lot-cases : LotCases
+pub lot_cases : LotCases
 unfolding fits units_of left_of value_of all_fit lot_of
-lot-cases =
+lot_cases =
     record {
       cut = refl;
       short = refl;

@@ -22,22 +22,22 @@ unfolding total units_of left_of
 conserved n [] = omega arith
 conserved n (e ∷ es) = omega (arith, conserved (n - e.size) es)
 
-left-most : (n : ℕ) (es : List Entry) → left_of n es ≤ n
-left-most n es = omega (arith, conserved n es)
+left_most : (n : ℕ) (es : List Entry) → left_of n es ≤ n
+left_most n es = omega (arith, conserved n es)
 
-used-up : (n : ℕ) (es : List Entry) → 0 < left_of n es → units_of n es ≡ sizes es
+used_up : (n : ℕ) (es : List Entry) → 0 < left_of n es → units_of n es ≡ sizes es
 unfolding units_of left_of sizes
-used-up n [] h = refl
-used-up n (e ∷ es) h =
-    let l = left-most (n - e.size) es in
+used_up n [] h = refl
+used_up n (e ∷ es) h =
+    let l = left_most (n - e.size) es in
     let m : min n e.size ≡ e.size = omega arith in
-    rw (m, used-up (n - e.size) es h)
+    rw (m, used_up (n - e.size) es h)
 
-none-taken : (es : List Entry) (k : ℕ) → get_or (units_of 0 es) k 0 ≡ 0
+none_taken : (es : List Entry) (k : ℕ) → get_or (units_of 0 es) k 0 ≡ 0
 unfolding units_of
-none-taken [] k = refl
-none-taken (e ∷ es) zero = omega arith
-none-taken (e ∷ es) (suc k) = let l : 0 - e.size ≡ 0 = omega arith in rw l (none-taken es k)
+none_taken [] k = refl
+none_taken (e ∷ es) zero = omega arith
+none_taken (e ∷ es) (suc k) = let l : 0 - e.size ≡ 0 = omega arith in rw l (none_taken es k)
 
 in_order : (n : ℕ) (es : List Entry) (k : ℕ) → 0 < get_or (units_of n es) k 0 → take k (units_of n es) ≡ take k (sizes es)
 unfolding units_of sizes
@@ -50,7 +50,7 @@ in_order n (e ∷ es) (suc k) h = go (leb n e.size) refl (in_order (n - e.size) 
     go true q r =
         let s = leb-true n e.size q in
         let l : n - e.size ≡ 0 = omega arith in
-        let z : get_or (units_of (n - e.size) es) k 0 ≡ 0 = rw l (none-taken es k) in
+        let z : get_or (units_of (n - e.size) es) k 0 ≡ 0 = rw l (none_taken es k) in
         absurd (omega arith)
     go false q r =
         let s = leb-false n e.size q in
@@ -72,10 +72,10 @@ module _ (n : ℕ) (es : List Entry) where
   unfolding fits value_of units_of
   start = refl
 
-  all-at : (m k : ℕ) → k ≤ m → all_fit n es m ≡ true → fits (sum_after n es k) ≡ true
+  all_at : (m k : ℕ) → k ≤ m → all_fit n es m ≡ true → fits (sum_after n es k) ≡ true
   unfolding all_fit
-  all-at zero k g h = let z : k ≡ 0 = omega arith in rw z start
-  all-at (suc m) k g h = go (leb k m) refl (λ l. all-at m k l (both (all_fit n es m) (fits (sum_after n es (suc m))) h).0)
+  all_at zero k g h = let z : k ≡ 0 = omega arith in rw z start
+  all_at (suc m) k g h = go (leb k m) refl (λ l. all_at m k l (both (all_fit n es m) (fits (sum_after n es (suc m))) h).0)
     where
       go : (t : Bool) → leb k m ≡ t → (k ≤ m → fits (sum_after n es k) ≡ true) → fits (sum_after n es k) ≡ true
       go true q r = r (leb-true k m q)
@@ -92,8 +92,8 @@ module _ (n : ℕ) (es : List Entry) where
   all_true h k = go (leb k (length es)) refl
     where
       go : (t : Bool) → leb k (length es) ≡ t → fits (sum_after n es k) ≡ true
-      go true q = all-at (length es) k (leb-true k (length es) q) h
-      go false q = let l = leb-false k (length es) q in ap fits (past k (omega arith)) ∙ all-at (length es) (length es) (omega arith) h
+      go true q = all_at (length es) k (leb-true k (length es) q) h
+      go false q = let l = leb-false k (length es) q in ap fits (past k (omega arith)) ∙ all_at (length es) (length es) (omega arith) h
 
   some_out : (m : ℕ) → all_fit n es m ≡ false → (k : ℕ) × ((k ≤ m) × (fits (sum_after n es k) ≡ false))
   unfolding all_fit
@@ -107,9 +107,9 @@ module _ (n : ℕ) (es : List Entry) where
       go false q w i = let r = i q in (r.0, (omega (arith, r.1.0), r.1.1))
 
   -- the lot by its test
-  lot-true : (s : Sale) → lot_of n es ≡ Lot.Is s → (all_fit n es (length es) ≡ true) × ((s.sum ≡ sum_over n es) × (s.left ≡ left_of n es))
+  lot_true : (s : Sale) → lot_of n es ≡ Lot.Is s → (all_fit n es (length es) ≡ true) × ((s.sum ≡ sum_over n es) × (s.left ≡ left_of n es))
   unfolding lot_of
-  lot-true s h = go (all_fit n es (length es)) refl h
+  lot_true s h = go (all_fit n es (length es)) refl h
     where
       go : (t : Bool) → all_fit n es (length es) ≡ t
           → cond t (Lot.Is (record { sum = sum_over n es; left = left_of n es })) Lot.Over ≡ Lot.Is s
@@ -117,9 +117,9 @@ module _ (n : ℕ) (es : List Entry) where
       go true q w = let e : s ≡ record { sum = sum_over n es; left = left_of n es } = cc in (q, (ap (λ (x : Sale). x.sum) e, ap (λ (x : Sale). x.left) e))
       go false q w = let z : ◌≡◌ {A = ℕ} 0 1 = cc in absurd (omega arith)
 
-  lot-false : lot_of n es ≡ Lot.Over → all_fit n es (length es) ≡ false
+  lot_false : lot_of n es ≡ Lot.Over → all_fit n es (length es) ≡ false
   unfolding lot_of
-  lot-false h = go (all_fit n es (length es)) refl h
+  lot_false h = go (all_fit n es (length es)) refl h
     where
       go : (t : Bool) → all_fit n es (length es) ≡ t
           → cond t (Lot.Is (record { sum = sum_over n es; left = left_of n es })) Lot.Over ≡ Lot.Over
@@ -136,16 +136,16 @@ module _ (n : ℕ) (es : List Entry) where
       go true q = absurd (false≢true (sym h ∙ all_true q k))
       go false q = rw q
 
-pub lots-are-exact : LotsAreExact
-lots-are-exact n es =
+pub lots_are_exact : LotsAreExact
+lots_are_exact n es =
     record {
       conserved = conserved n es;
       in_order = in_order n es;
-      used-up = used-up n es;
+      used_up = used_up n es;
       grows = grows n es;
-      given = λ s h. (lot-true n es s h).1;
-      fit = λ s h. all_true n es (lot-true n es s h).0;
-      refused = λ h. some_out n es (length es) (lot-false n es h);
+      given = λ s h. (lot_true n es s h).1;
+      fit = λ s h. all_true n es (lot_true n es s h).0;
+      refused = λ h. some_out n es (length es) (lot_false n es h);
       refuses = refuses n es;
       whole = whole n es;
     }

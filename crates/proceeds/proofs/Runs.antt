@@ -28,9 +28,9 @@ unfoldable all_from : ℤ → ℕ → List Entry → ℕ → Bool
 all_from z n es zero = true
 all_from z n es (suc k) = all_from z n es k && fits (z +ℤ sum_after n es (suc k))
 
-and-true : (a : Bool) → a && true ≡ a
-and-true true = refl
-and-true false = refl
+and_true : (a : Bool) → a && true ≡ a
+and_true true = refl
+and_true false = refl
 
 and_assoc : (a b c : Bool) → (a && b) && c ≡ a && (b && c)
 and_assoc true b c = refl
@@ -40,7 +40,7 @@ and_assoc false b c = refl
 front : (z : ℤ) (n : ℕ) (e : Entry) (es : List Entry) (k : ℕ)
     → all_from z n (e ∷ es) (suc k) ≡ fits (next z n e) && all_from (next z n e) (n - e.size) es k
 unfolding all_from value_of units_of
-front z n e es zero = ap (λ (w : ℤ). fits (z +ℤ w)) (+ℤ_idr (e.price *ℤ pos (min n e.size))) ∙ sym (and-true (fits (next z n e)))
+front z n e es zero = ap (λ (w : ℤ). fits (z +ℤ w)) (+ℤ_idr (e.price *ℤ pos (min n e.size))) ∙ sym (and_true (fits (next z n e)))
 front z n e es (suc k) =
     ap (λ (b : Bool). b && fits (z +ℤ (e.price *ℤ pos (min n e.size) +ℤ sum_after (n - e.size) es (suc k)))) (front z n e es k)
     ∙ ap (λ (w : ℤ). (fits (next z n e) && all_from (next z n e) (n - e.size) es k) && fits w) (sym (+ℤ_assoc z (e.price *ℤ pos (min n e.size)) (sum_after (n - e.size) es (suc k))))
@@ -64,33 +64,33 @@ run_is z n (e ∷ es) =
     go true h = h ∙ ap (λ (w : ℤ). answer (all_from (next z n e) (n - e.size) es (length es)) w (left_of (n - e.size) es)) (+ℤ_assoc z (e.price *ℤ pos (min n e.size)) (sum_after (n - e.size) es (length es)))
     go false h = refl
 
-all-from : (n : ℕ) (es : List Entry) (k : ℕ) → all_from (pos 0) n es k ≡ all_fit n es k
+all_from_lem : (n : ℕ) (es : List Entry) (k : ℕ) → all_from (pos 0) n es k ≡ all_fit n es k
 unfolding all_from all_fit
-all-from n es zero = refl
-all-from n es (suc k) = rw (all-from n es k, +ℤ_idl (sum_after n es (suc k)))
+all_from_lem n es zero = refl
+all_from_lem n es (suc k) = rw (all_from_lem n es k, +ℤ_idl (sum_after n es (suc k)))
 
 pub whole : (n : ℕ) (es : List Entry) → sum_after n es (length es) ≡ sum_over n es
 whole n es = rw (take_all (length es) es (omega arith))
 
-pub run-lot : (n : ℕ) (es : List Entry) → run (pos 0) n es ≡ lot_of n es
+pub run_lot : (n : ℕ) (es : List Entry) → run (pos 0) n es ≡ lot_of n es
 unfolding lot_of
-run-lot n es = run_is (pos 0) n es ∙ rw (all-from n es (length es), +ℤ_idl (sum_after n es (length es)), whole n es)
+run_lot n es = run_is (pos 0) n es ∙ rw (all_from_lem n es (length es), +ℤ_idl (sum_after n es (length es)), whole n es)
 
 -- ---- the ways of a turn
 pub run_end : (z : ℤ) (n i : ℕ) (es : List Entry) → length es ≤ i → run z n (drop i es) ≡ Lot.Is (record { sum = z; left = n })
 unfolding run
 run_end z n i es h = rw (drop_of_length-le es h)
 
-no-units : (z : ℤ) (e : Entry) → next z 0 e ≡ z
-no-units z e = let m : min 0 e.size ≡ 0 = omega arith in rw (m, *ℤ-zero e.price, +ℤ_idr z)
+no_units : (z : ℤ) (e : Entry) → next z 0 e ≡ z
+no_units z e = let m : min 0 e.size ≡ 0 = omega arith in rw (m, *ℤ-zero e.price, +ℤ_idr z)
 
 -- with nothing left the sum stays
-pub run-sold : (z : ℤ) (es : List Entry) → fits z ≡ true → run z 0 es ≡ Lot.Is (record { sum = z; left = 0 })
+pub run_sold : (z : ℤ) (es : List Entry) → fits z ≡ true → run z 0 es ≡ Lot.Is (record { sum = z; left = 0 })
 unfolding run
-run-sold z [] h = refl
-run-sold z (e ∷ es) h =
+run_sold z [] h = refl
+run_sold z (e ∷ es) h =
     let l : 0 - e.size ≡ 0 = omega arith in
-    rw (no-units z e, h, l) (run-sold z es h)
+    rw (no_units z e, h, l) (run_sold z es h)
 
 -- the entry at i comes off what is left
 at_place : (a : List Entry) (held i : ℕ) (d : Entry) → i < held → i < length a → drop i (take held a) ≡ get_or a i d ∷ drop (i + 1) (take held a)
@@ -101,17 +101,17 @@ at_place a held i d h k =
 -- a turn from a level, at the place with the index i: so many units at a price, and the level that was told
 module _ (a : List Entry) (held i level left : ℕ) (d : Entry) (h : i < held) (k : i < length a)
     (price : ℤ) (units : ℕ) (p : price ≡ (get_or a i d).price) (u : units ≡ min left (get_or a i d).size) where
-  is-next : sum_of level +ℤ price *ℤ pos units ≡ next (sum_of level) left (get_or a i d)
-  is-next = rw (p, u)
+  is_next_lem : sum_of level +ℤ price *ℤ pos units ≡ next (sum_of level) left (get_or a i d)
+  is_next_lem = rw (p, u)
 
-  pub turn-out : level_of (sum_of level +ℤ price *ℤ pos units) ≡ Level.Out → run (sum_of level) left (drop i (take held a)) ≡ Lot.Over
+  pub turn_out : level_of (sum_of level +ℤ price *ℤ pos units) ≡ Level.Out → run (sum_of level) left (drop i (take held a)) ≡ Lot.Over
   unfolding run
-  turn-out e = ap (run (sum_of level) left) (at_place a held i d h k) ∙ rw (none (next (sum_of level) left (get_or a i d)) (ap level_of (sym is-next) ∙ e))
+  turn_out e = ap (run (sum_of level) left) (at_place a held i d h k) ∙ rw (none (next (sum_of level) left (get_or a i d)) (ap level_of (sym is_next_lem) ∙ e))
 
   pub turn_on : (to : ℕ) → level_of (sum_of level +ℤ price *ℤ pos units) ≡ Level.At to
       → (to ≤ most) × (run (sum_of level) left (drop i (take held a)) ≡ run (sum_of to) (left - units) (drop (i + 1) (take held a)))
   unfolding run
   turn_on to e =
-      let s : Stands (next (sum_of level) left (get_or a i d)) to = stands (next (sum_of level) left (get_or a i d)) to (ap level_of (sym is-next) ∙ e) in
+      let s : Stands (next (sum_of level) left (get_or a i d)) to = stands (next (sum_of level) left (get_or a i d)) to (ap level_of (sym is_next_lem) ∙ e) in
       let m : left - (get_or a i d).size ≡ left - units = omega (arith, u) in
       (s.small, ap (run (sum_of level) left) (at_place a held i d h k) ∙ rw s.fine (rw (s.sum, m)))

@@ -20,7 +20,7 @@ pub record Exactly (n : ℕ) (es : List Entry) : Type 0 where
   -- A place takes units only where all before it are used up.
   pub in_order : (k : ℕ) → 0 < get_or (units_of n es) k 0 → take k (units_of n es) ≡ take k (sizes es)
   -- Something is left only where the side is used up.
-  pub used-up : 0 < left_of n es → units_of n es ≡ sizes es
+  pub used_up : 0 < left_of n es → units_of n es ≡ sizes es
   -- A larger quantity never brings fewer units.
   pub grows : (m : ℕ) → n ≤ m → total (units_of n es) ≤ total (units_of m es)
   -- What is given is the exact sum and what is left,

@@ -15,8 +15,8 @@ use Rattle.board.specs.Snapshot.{shown, run, after, replayed, take, too_wide, sn
 use Rattle.board.specs.Feed.{feed}
 use Rattle.board.specs.Calls.{Call, fed, aside, called, calls, Throughout, is_counted}
 use Rattle.board.specs.Demand.{message_at, NumberedFromOne, IsOf, Right}
-use Rattle.board.proofs.Giving.{gives-only}
-use Rattle.board.proofs.Answers.{count-counted}
+use Rattle.board.proofs.Giving.{gives_only}
+use Rattle.board.proofs.Answers.{count_counted}
 
 -- H and the heard moment of a board
 pub record At (n h : ℕ) (b : Board) : Type 0 where
@@ -33,7 +33,7 @@ settled_at true n h b p = go (any_waiting b.insts)
     go false = record { last = p.last; heard = p.heard }
 
 gives_at : (us : List Update) (n h : ℕ) (b : Board) → At n h b → At n h (gives us b)
-gives_at us n h b p = rw (gives-only us b) (record { last = p.last; heard = p.heard })
+gives_at us n h b p = rw (gives_only us b) (record { last = p.last; heard = p.heard })
 
 joined_at_lem : (over : Bool) (k : ℕ) (us : List Update) (n h : ℕ) (b : Board) → At n h b → At n h (joined over k us b)
 joined_at_lem true k us n h b p = record { last = p.last; heard = p.heard }
@@ -54,13 +54,13 @@ count_at_lem a n heard us b = go (any_waiting b.insts) (overflows n us b)
         (gives_at us n heard (joined over n us (counted n heard b)) (joined_at_lem over n us n heard (counted n heard b) now))
 
 -- ---- a snapshot
-replayed-at : (i : ℕ) (o : Outcome Lists) (b : Board) → At b.H b.heard (replayed i o b).board
-replayed-at i (leaves l) b = settled_at true b.H b.heard _ (record { last = refl; heard = refl })
-replayed-at i (breach r) b = settled_at true b.H b.heard _ (record { last = refl; heard = refl })
+replayed_at : (i : ℕ) (o : Outcome Lists) (b : Board) → At b.H b.heard (replayed i o b).board
+replayed_at i (leaves l) b = settled_at true b.H b.heard _ (record { last = refl; heard = refl })
+replayed_at i (breach r) b = settled_at true b.H b.heard _ (record { last = refl; heard = refl })
 
-snap-at : (d S : ℕ) (l : Lists) (b : Board) → At b.H b.heard (snap d S l b).board
+snap_at_lem : (d S : ℕ) (l : Lists) (b : Board) → At b.H b.heard (snap d S l b).board
 unfolding snap take
-snap-at d S l b = go (ltb i (length b.insts)) (at i b).waiting (ltb S b.B) (ltb b.H S) (too_wide l)
+snap_at_lem d S l b = go (ltb i (length b.insts)) (at i b).waiting (ltb S b.B) (ltb b.H S) (too_wide l)
   where
     i : ℕ
     i = look d b.insts
@@ -74,7 +74,7 @@ snap-at d S l b = go (ltb i (length b.insts)) (at i b).waiting (ltb S b.B) (ltb 
     go true true true above wide = same
     go true true false true wide = same
     go true true false false true = same
-    go true true false false false = replayed-at i (run (after i S b.queue) l) b
+    go true true false false false = replayed_at i (run (after i S b.queue) l) b
 
 -- ---- the board's last number and heard moment are those of a message of the stream
 module _ (ms : List Message) where
@@ -106,15 +106,15 @@ module _ (ms : List Message) where
         go : (old next : Bool) → (is_counted (number_by old next n heard vs b).answer ≡ true → IsOf ms (numbered n heard us))
             → Heard (number_by old next n heard vs b).board
         go true next f = h
-        go false true f = streamed n heard us _ (f (count-counted 0 n heard vs b refl)) (count_at_lem 0 n heard vs b)
-        go false false f = streamed n heard us _ (f (count-counted 1 n heard vs (cleared n b) refl)) (count_at_lem 1 n heard vs (cleared n b))
-    step d (fed (snapshot s us)) b r h = still b _ (snap-at s.id s.last (shown us) b) h
+        go false true f = streamed n heard us _ (f (count_counted 0 n heard vs b refl)) (count_at_lem 0 n heard vs b)
+        go false false f = streamed n heard us _ (f (count_counted 1 n heard vs (cleared n b) refl)) (count_at_lem 1 n heard vs (cleared n b))
+    step d (fed (snapshot s us)) b r h = still b _ (snap_at_lem s.id s.last (shown us) b) h
     step d (fed (refused why)) b r h = h
     step d (aside a) b r h = h
 
-    heard-along : (d : ℕ) (cs : List Call) (b : Board) → Throughout (Right ms d) cs b → Heard b → Heard (calls cs b)
-    heard-along d [] b r h = h
-    heard-along d (c ∷ cs) b r h = heard-along d cs (called c b).board r.1 (step d c b r.0 h)
+    heard_along : (d : ℕ) (cs : List Call) (b : Board) → Throughout (Right ms d) cs b → Heard b → Heard (calls cs b)
+    heard_along d [] b r h = h
+    heard_along d (c ∷ cs) b r h = heard_along d cs (called c b).board r.1 (step d c b r.0 h)
 
-    pub heard-after : (d depth : ℕ) (ids : List ℕ) (cs : List Call) → Throughout (Right ms d) cs (opened depth ids) → Heard (calls cs (opened depth ids))
-    heard-after d depth ids cs r = heard-along d cs (opened depth ids) r (λ k q. absurd (omega (arith, q)))
+    pub heard_after : (d depth : ℕ) (ids : List ℕ) (cs : List Call) → Throughout (Right ms d) cs (opened depth ids) → Heard (calls cs (opened depth ids))
+    heard_after d depth ids cs r = heard_along d cs (opened depth ids) r (λ k q. absurd (omega (arith, q)))

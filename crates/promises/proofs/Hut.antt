@@ -13,7 +13,7 @@ use Rattle.board.specs.Snapshot.{entries_of, run, after, take, snap}
 use Rattle.board.specs.Feed.{feed}
 use Rattle.board.specs.Calls.{Call, fed, aside, inst, Live, mine}
 use Rattle.board.specs.Demand.{NumberedFromOne, book_at, NeverBreaks}
-use Rattle.board.proofs.Streams.{numbered-from-one, never-breaks}
+use Rattle.board.proofs.Streams.{numbered_from_one, never_breaks}
 use Rattle.heading.specs.Marks.{marked, with_mark}
 use Rattle.loops.specs.Loops.{with_name, lower, in_row, is_whole}
 use Rattle.loops.specs.Ending.{at_end, ends, ended}
@@ -25,37 +25,37 @@ use Rattle.store.specs.Meaning.{board_at, channel_at}
 use Rattle.sound.specs.Sound.{sound}
 use Rattle.opening.specs.Opening.{open_answer, open_store}
 use Rattle.feed.specs.Feeding as bytes
-use Rattle.samples.specs.Says.{bid-1, bid-2, offer-3, bid-4, first_says, second-says, third-says, fourth-says, shows, one-says, two-says}
-use Rattle.samples.specs.Messages.{two-of-two}
-use Rattle.samples.proofs.Read.{says_first, says_second, says-third, says-at-1, says-at-2, says-at-4, says-one-of-two, says-two-of-two, says-fourth}
+use Rattle.samples.specs.Says.{bid_1, bid_2, offer_3, bid_4, first_says, second_says, third_says, fourth_says, shows, one_says, two_says}
+use Rattle.samples.specs.Messages.{two_of_two}
+use Rattle.samples.proofs.Read.{says_first, says_second, says_third, says_at_1, says_at_2, says_at_4, says_one_of_two, says_two_of_two, says_fourth}
 use Rattle.promises.specs.Acts.{lefts, call_of}
 use Rattle.promises.specs.Recovery.{read_in, Supposed}
 use Rattle.promises.specs.Hut.{stream, received, ours, HutRecovers, longer, until_whole, both, OptionGoesLive}
-use Rattle.promises.proofs.Recovery.{Holds, back, holds, starts, right-back}
+use Rattle.promises.proofs.Recovery.{Holds, back, holds, starts, right_back}
 
 -- what the stream says, and the calls
 abbrev said : List Message
-said = first_says ∷ second-says ∷ third-says ∷ []
+said = first_says ∷ second_says ∷ third_says ∷ []
 
-stream-said : read_in 0 stream ≡ said
+stream_said : read_in 0 stream ≡ said
 unfolding stream
-stream-said = rw (says_first, says_second, says-third)
+stream_said = rw (says_first, says_second, says_third)
 
 abbrev made : List Call
 made =
-    fed first_says ∷ fed third-says ∷ fed second-says ∷ fed (shows 1 bid-1) ∷ aside 0 ∷ fed (shows 4 bid-2) ∷ fed (shows 2 bid-2) ∷ []
+    fed first_says ∷ fed third_says ∷ fed second_says ∷ fed (shows 1 bid_1) ∷ aside 0 ∷ fed (shows 4 bid_2) ∷ fed (shows 2 bid_2) ∷ []
 
-calls-made : map (call_of 0) received ≡ made
+calls_made : map (call_of 0) received ≡ made
 unfolding received
-calls-made = rw (says_first, says_second, says-third, says-at-1, says-at-2, says-at-4)
+calls_made = rw (says_first, says_second, says_third, says_at_1, says_at_2, says_at_4)
 
 -- ---- on messages and channels
 numbers : NumberedFromOne said
-numbers = numbered-from-one said refl
+numbers = numbered_from_one said refl
 
 never : NeverBreaks said 7
 unfolding book_at mine run applied after_action after_new after_change
-never = never-breaks said 7 (record { bids = bid-2 ∷ []; offers = offer-3 ∷ [] }) refl
+never = never_breaks said 7 (record { bids = bid_2 ∷ []; offers = offer_3 ∷ [] }) refl
 
 right : Throughout (RightBy said 7) made (opened_channel 0 ours)
 unfolding book_at mine run applied after_action after_new after_change any_waiting look joining hit give gives count number entries_of after take snap feed given in_row is_whole with_name lower at_end ends ended marked with_mark
@@ -90,25 +90,25 @@ last : end.board.H ≡ 3
 unfolding applied after_action after_new after_change any_waiting look joining hit give gives count number entries_of run after take snap feed given in_row is_whole with_name lower at_end ends ended marked with_mark
 last = refl
 
-pub book : (inst 7 end.board).book ≡ record { bids = bid-2 ∷ []; offers = offer-3 ∷ [] }
+pub book : (inst 7 end.board).book ≡ record { bids = bid_2 ∷ []; offers = offer_3 ∷ [] }
 unfolding applied after_action after_new after_change any_waiting look joining hit give gives count number entries_of run after take snap feed given in_row is_whole with_name lower at_end ends ended marked with_mark
 book = refl
 
 -- ---- on bytes and stores
-pub hut-holds : (xs : List ℕ) → open_answer 0 ours xs ≡ 0 → Holds 0 (lefts received (open_store 0 ours xs)) end
-hut-holds xs e =
-    subst (λ (cs : List Call). Holds 0 (lefts received (open_store 0 ours xs)) (calls cs (opened_channel 0 ours))) calls-made
+pub hut_holds : (xs : List ℕ) → open_answer 0 ours xs ≡ 0 → Holds 0 (lefts received (open_store 0 ours xs)) end
+hut_holds xs e =
+    subst (λ (cs : List Call). Holds 0 (lefts received (open_store 0 ours xs)) (calls cs (opened_channel 0 ours))) calls_made
     (holds 0 received (open_store 0 ours xs) (opened_channel 0 ours) (starts 0 ours xs e))
 
-pub hut-recovers : HutRecovers
-hut-recovers xs e =
+pub hut_recovers : HutRecovers
+hut_recovers xs e =
     let h = starts 0 ours xs e in
     let s = open_store 0 ours xs in
-    let q : board_at (lefts received s) ≡ end.board = ap (λ (c : Channel). c.board) (hut-holds xs e).same in
+    let q : board_at (lefts received s) ≡ end.board = ap (λ (c : Channel). c.board) (hut_holds xs e).same in
     record {
-      numbers = rw stream-said numbers;
-      never = rw stream-said never;
-      right = back 0 (Supposed 0 stream 7) (RightBy (read_in 0 stream) 7) (right-back 0 stream 7) received s (opened_channel 0 ours) h (rw (stream-said, calls-made) right);
+      numbers = rw stream_said numbers;
+      never = rw stream_said never;
+      right = back 0 (Supposed 0 stream 7) (RightBy (read_in 0 stream) 7) (right_back 0 stream 7) received s (opened_channel 0 ours) h (rw (stream_said, calls_made) right);
       live = rw q live;
       last = rw q last;
       book = rw q book;
@@ -116,33 +116,33 @@ hut-recovers xs e =
 
 -- ---- the option that never has a snapshot
 
-abbrev longer-says : List Message
-longer-says = first_says ∷ second-says ∷ third-says ∷ fourth-says ∷ []
+abbrev longer_says : List Message
+longer_says = first_says ∷ second_says ∷ third_says ∷ fourth_says ∷ []
 
-longer_said : read_in 0 longer ≡ longer-says
+longer_said : read_in 0 longer ≡ longer_says
 unfolding longer
-longer_said = rw (says_first, says_second, says-third, says-fourth)
+longer_said = rw (says_first, says_second, says_third, says_fourth)
 
-abbrev before-made : List Call
-before-made = fed first_says ∷ fed third-says ∷ fed one-says ∷ fed one-says ∷ fed fourth-says ∷ []
+abbrev before_made : List Call
+before_made = fed first_says ∷ fed third_says ∷ fed one_says ∷ fed one_says ∷ fed fourth_says ∷ []
 
-abbrev whole-made : List Call
-whole-made = fed first_says ∷ fed third-says ∷ fed one-says ∷ fed one-says ∷ fed fourth-says ∷ fed two-says ∷ []
+abbrev whole_made : List Call
+whole_made = fed first_says ∷ fed third_says ∷ fed one_says ∷ fed one_says ∷ fed fourth_says ∷ fed two_says ∷ []
 
-whole-calls : map (call_of 0) until_whole ≡ whole-made
+whole_calls : map (call_of 0) until_whole ≡ whole_made
 unfolding until_whole
-whole-calls = rw (says_first, says-third, says-one-of-two, says-fourth, says-two-of-two)
+whole_calls = rw (says_first, says_third, says_one_of_two, says_fourth, says_two_of_two)
 
-option-numbers : NumberedFromOne longer-says
-option-numbers = numbered-from-one longer-says refl
+option_numbers : NumberedFromOne longer_says
+option_numbers = numbered_from_one longer_says refl
 
-option-never : NeverBreaks longer-says 9
+option_never : NeverBreaks longer_says 9
 unfolding book_at mine run applied after_action after_new after_change
-option-never = never-breaks longer-says 9 (record { bids = bid-4 ∷ []; offers = [] }) refl
+option_never = never_breaks longer_says 9 (record { bids = bid_4 ∷ []; offers = [] }) refl
 
-option-right : Throughout (RightBy longer-says 9) whole-made (opened_channel 0 both)
+option_right : Throughout (RightBy longer_says 9) whole_made (opened_channel 0 both)
 unfolding book_at mine run applied after_action after_new after_change any_waiting look joining hit give gives count number entries_of after take snap feed given in_row is_whole with_name lower at_end ends ended marked with_mark
-option-right = (
+option_right = (
   ((λ _. (0, omega arith, refl)), tt),
   (
     ((λ _. (2, omega arith, refl)), tt),
@@ -160,59 +160,59 @@ option-right = (
 )
 
 -- before the W that ends the loop, and behind it
-abbrev before-end : Channel
-before-end = calls before-made (opened_channel 0 both)
+abbrev before_end : Channel
+before_end = calls before_made (opened_channel 0 both)
 
-abbrev behind-end : Channel
-behind-end = calls whole-made (opened_channel 0 both)
+abbrev behind_end : Channel
+behind_end = calls whole_made (opened_channel 0 both)
 
-option-waits : (inst 9 before-end.board).waiting ≡ true
+option_waits : (inst 9 before_end.board).waiting ≡ true
 unfolding applied after_action after_new after_change any_waiting look joining hit give gives count number entries_of run after take snap feed given in_row is_whole with_name lower at_end ends ended marked with_mark
-option-waits = refl
+option_waits = refl
 
-option-live : (Live 9 behind-end.board) × (behind-end.board.H ≡ 4) × ((inst 9 behind-end.board).book ≡ record { bids = bid-4 ∷ []; offers = [] })
+option_live : (Live 9 behind_end.board) × (behind_end.board.H ≡ 4) × ((inst 9 behind_end.board).book ≡ record { bids = bid_4 ∷ []; offers = [] })
 unfolding applied after_action after_new after_change any_waiting look joining hit give gives count number entries_of run after take snap feed given in_row is_whole with_name lower at_end ends ended marked with_mark
-option-live = (refl, refl, refl)
+option_live = (refl, refl, refl)
 
 -- its answer, and that none waits
-option-answer : ((given two-says before-end).answer ≡ 5) × (waiting_in (given two-says before-end).channel.board.insts ≡ 0)
+option_answer : ((given two_says before_end).answer ≡ 5) × (waiting_in (given two_says before_end).channel.board.insts ≡ 0)
 unfolding applied after_action after_new after_change any_waiting look joining hit give gives count number entries_of run after take snap feed given in_row is_whole with_name lower at_end ends ended marked with_mark waiting_in
-option-answer = (refl, refl)
+option_answer = (refl, refl)
 
 -- the bytes of that W on such a channel
-end-kind : before-end.board.depth ≡ 0
+end_kind : before_end.board.depth ≡ 0
 unfolding applied after_action after_new after_change any_waiting look joining hit give gives count number entries_of run after take snap feed given in_row is_whole with_name lower at_end ends ended marked with_mark
-end-kind = refl
+end_kind = refl
 
-two-fed : bytes.fed two-of-two before-end ≡ given two-says before-end
+two_fed : bytes.fed two_of_two before_end ≡ given two_says before_end
 unfolding bytes.fed
-two-fed = ap (λ (n : ℕ). given (message_in n two-of-two) before-end) end-kind ∙ ap (λ (m : Message). given m before-end) says-two-of-two
+two_fed = ap (λ (n : ℕ). given (message_in n two_of_two) before_end) end_kind ∙ ap (λ (m : Message). given m before_end) says_two_of_two
 
-answered : (xs : List ℕ) → sound xs ≡ true → channel_at xs ≡ before-end → bytes.feed_answer two-of-two xs ≡ 5
+answered : (xs : List ℕ) → sound xs ≡ true → channel_at xs ≡ before_end → bytes.feed_answer two_of_two xs ≡ 5
 unfolding bytes.feed_answer
 answered xs s q =
-    let o : bytes.fed two-of-two (channel_at xs) ≡ given two-says before-end = ap (bytes.fed two-of-two) q ∙ two-fed in
-    rw (s, o, option-answer.0, option-answer.1)
+    let o : bytes.fed two_of_two (channel_at xs) ≡ given two_says before_end = ap (bytes.fed two_of_two) q ∙ two_fed in
+    rw (s, o, option_answer.0, option_answer.1)
 
-before-calls : map (call_of 0) (list.take 5 until_whole) ≡ before-made
+before_calls : map (call_of 0) (list.take 5 until_whole) ≡ before_made
 unfolding until_whole
-before-calls = rw (says_first, says-third, says-one-of-two, says-fourth)
+before_calls = rw (says_first, says_third, says_one_of_two, says_fourth)
 
-pub option-goes-live : OptionGoesLive
-option-goes-live xs e =
+pub option_goes_live : OptionGoesLive
+option_goes_live xs e =
     let s = open_store 0 both xs in
     let c = opened_channel 0 both in
     let h = starts 0 both xs e in
     let k = holds 0 (list.take 5 until_whole) s c h in
-    let p : channel_at (lefts (list.take 5 until_whole) s) ≡ before-end = k.same ∙ ap (λ (cs : List Call). calls cs c) before-calls in
-    let q : channel_at (lefts until_whole s) ≡ behind-end = (holds 0 until_whole s c h).same ∙ ap (λ (cs : List Call). calls cs c) whole-calls in
+    let p : channel_at (lefts (list.take 5 until_whole) s) ≡ before_end = k.same ∙ ap (λ (cs : List Call). calls cs c) before_calls in
+    let q : channel_at (lefts until_whole s) ≡ behind_end = (holds 0 until_whole s c h).same ∙ ap (λ (cs : List Call). calls cs c) whole_calls in
     record {
-      numbers = rw longer_said option-numbers;
-      never = rw longer_said option-never;
-      right = back 0 (Supposed 0 longer 9) (RightBy (read_in 0 longer) 9) (right-back 0 longer 9) until_whole s c h (rw (longer_said, whole-calls) option-right);
-      waits = ap (λ (d : Channel). (inst 9 d.board).waiting) p ∙ option-waits;
-      live = ap (λ (d : Channel). (inst 9 d.board).waiting) q ∙ option-live.0;
-      last = ap (λ (d : Channel). d.board.H) q ∙ option-live.1;
-      book = ap (λ (d : Channel). (inst 9 d.board).book) q ∙ option-live.2;
+      numbers = rw longer_said option_numbers;
+      never = rw longer_said option_never;
+      right = back 0 (Supposed 0 longer 9) (RightBy (read_in 0 longer) 9) (right_back 0 longer 9) until_whole s c h (rw (longer_said, whole_calls) option_right);
+      waits = ap (λ (d : Channel). (inst 9 d.board).waiting) p ∙ option_waits;
+      live = ap (λ (d : Channel). (inst 9 d.board).waiting) q ∙ option_live.0;
+      last = ap (λ (d : Channel). d.board.H) q ∙ option_live.1;
+      book = ap (λ (d : Channel). (inst 9 d.board).book) q ∙ option_live.2;
       answer = answered (lefts (list.take 5 until_whole) s) k.sound p;
     }

@@ -10,12 +10,12 @@ use lib.Seq.{sets}
 use borrow.Author.Tests.{le-leb}
 use Rattle.digits.specs.Digits.{digits_of}
 use Rattle.calendar.specs.Calendar.{leap, months, days_in, days_to, year_days, days_before, is_date, day_of, date_number}
-use Rattle.calendar.proofs.Dates.{date-back}
+use Rattle.calendar.proofs.Dates.{date_back}
 use Rattle.moment.specs.Moments.{date_of, two_of, minutes_of, clock_of, time_of, moment_of, day_part, time_part, time_number}
 use Rattle.moment.specs.Ages.{millis, age_of}
 use Rattle.book.specs.Rules.{Lists, applied, after_action, after_new, after_change}
 use Rattle.book.specs.declared.Entry.{Entry}
-use Rattle.cells.proofs.Stores.{take-sets}
+use Rattle.cells.proofs.Stores.{take_sets}
 use Rattle.sums.specs.Sums.{fits}
 use Rattle.proceeds.specs.Lots.{units_of, left_of, value_of, sum_over, sum_after, all_fit, lot_of}
 use Rattle.board.specs.Board.{any_waiting, look}
@@ -43,52 +43,52 @@ use Rattle.lots.specs.declared.Lotted.{Lotted}
 use Rattle.lots.specs.Lots.{on_quote, lotted_of}
 use Rattle.lots.specs.Rooms.{lot_size, sold_words, lot_answer, lot_out}
 use Rattle.lots.specs.Laws.{Rests, Brings}
-use Rattle.lots.proofs.Laws.{lots-are-ordered}
-use Rattle.samples.specs.Says.{bid-2, offer-3}
+use Rattle.lots.proofs.Laws.{lots_are_ordered}
+use Rattle.samples.specs.Says.{bid_2, offer_3}
 use Rattle.promises.specs.Acts.{lefts}
 use Rattle.promises.specs.Hut.{received, ours}
 use Rattle.promises.specs.Lots.{LotsAreDated, LotsOverByStream, BesideQuotes, LotsBesideQuotes, at_five, HutDeals}
 use Rattle.promises.proofs.Recovery.{Holds}
-use Rattle.promises.proofs.Hut.{end, book, hut-holds}
-use Rattle.promises.proofs.Quotes.{given_by, counted, as-of}
+use Rattle.promises.proofs.Hut.{end, book, hut_holds}
+use Rattle.promises.proofs.Quotes.{given_by, counted, as_of}
 
 -- ---- the quote that a lot rests on, on the board
 pub record OnBoard (id : ℕ) (now : List ℕ) (limit : ℕ) (xs : List ℕ) (q : Quote) : Type 0 where
-  pub is-sound : sound xs ≡ true
+  pub is_sound_lem : sound xs ≡ true
   pub quoted : quote_of id now limit (board_at xs) ≡ Quoted.Is q
 
 module _ (id : ℕ) (now : List ℕ) (limit : ℕ) (xs : List ℕ) where
   -- the quote of a store that is given is its board's
-  on-board : (q : Quote) → quoted_of id now limit xs ≡ Quoted.Is q → OnBoard id now limit xs q
+  on_board : (q : Quote) → quoted_of id now limit xs ≡ Quoted.Is q → OnBoard id now limit xs q
   unfolding quoted_of
-  on-board q = go (sound xs) refl
+  on_board q = go (sound xs) refl
     where
       go : (t : Bool) → sound xs ≡ t → cond t (quote_of id now limit (board_at xs)) Quoted.Unsound ≡ Quoted.Is q → OnBoard id now limit xs q
-      go true s e = record { is-sound = s; quoted = e }
+      go true s e = record { is_sound_lem = s; quoted = e }
       go false s e = let z : ◌≡◌ {A = ℕ} 0 1 = cc in absurd (omega arith)
 
-  behind-is : (buying : Bool) (q : Quote) → quoted_of id now limit xs ≡ Quoted.Is q → behind buying id now limit xs ≡ side_for buying (inst id (board_at xs)).book
+  behind_is : (buying : Bool) (q : Quote) → quoted_of id now limit xs ≡ Quoted.Is q → behind buying id now limit xs ≡ side_for buying (inst id (board_at xs)).book
   unfolding behind
-  behind-is buying q e = rw e
+  behind_is buying q e = rw e
 
   -- a quote that is answered 0 is given
-  is-quoted : (r : Quoted) → quote_number r ≡ 0 → (q : Quote) × (r ≡ Quoted.Is q)
-  is-quoted (Quoted.Is q) e = (q, refl)
-  is-quoted Quoted.Unsound e = absurd (omega arith)
-  is-quoted Quoted.BadArgument e = absurd (omega arith)
-  is-quoted Quoted.NotFollowed e = absurd (omega arith)
-  is-quoted Quoted.Waiting e = absurd (omega arith)
-  is-quoted Quoted.NothingHeard e = absurd (omega arith)
-  is-quoted Quoted.BeforeHeard e = absurd (omega arith)
-  is-quoted Quoted.TooOld e = absurd (omega arith)
+  is_quoted : (r : Quoted) → quote_number r ≡ 0 → (q : Quote) × (r ≡ Quoted.Is q)
+  is_quoted (Quoted.Is q) e = (q, refl)
+  is_quoted Quoted.Unsound e = absurd (omega arith)
+  is_quoted Quoted.BadArgument e = absurd (omega arith)
+  is_quoted Quoted.NotFollowed e = absurd (omega arith)
+  is_quoted Quoted.Waiting e = absurd (omega arith)
+  is_quoted Quoted.NothingHeard e = absurd (omega arith)
+  is_quoted Quoted.BeforeHeard e = absurd (omega arith)
+  is_quoted Quoted.TooOld e = absurd (omega arith)
 
   -- and is the board's
-  is-given : (q p : Quote) → Quoted.Is q ≡ Quoted.Is p → q ≡ p
-  is-given q p e = cc
+  is_given : (q p : Quote) → Quoted.Is q ≡ Quoted.Is p → q ≡ p
+  is_given q p e = cc
 
-  of-quote : (q : Quote) → OnBoard id now limit xs q → q ≡ given (board_at xs) (inst id (board_at xs))
-  of-quote q o =
-      is-given q (given (board_at xs) (inst id (board_at xs))) (sym o.quoted ∙ (given_by id now limit (board_at xs) (ap quote_number o.quoted)).said)
+  of_quote : (q : Quote) → OnBoard id now limit xs q → q ≡ given (board_at xs) (inst id (board_at xs))
+  of_quote q o =
+      is_given q (given (board_at xs) (inst id (board_at xs))) (sym o.quoted ∙ (given_by id now limit (board_at xs) (ap quote_number o.quoted)).said)
 
 module _ (buying : Bool) (id n : ℕ) (now : List ℕ) (limit : ℕ) (xs : List ℕ) where
   abbrev side : List Entry
@@ -97,29 +97,29 @@ module _ (buying : Bool) (id n : ℕ) (now : List ℕ) (limit : ℕ) (xs : List 
   abbrev sale : Sold
   sale = record { sum = sum_over n side; left = left_of n side; number = (board_at xs).H; heard = (board_at xs).heard }
 
-  sold-as : (s t : Sold) → s.sum ≡ t.sum → s.left ≡ t.left → s.number ≡ t.number → s.heard ≡ t.heard → sold_words s ≡ sold_words t
-  sold-as s t a b c d = rw (a, b, c, d)
+  sold_as : (s t : Sold) → s.sum ≡ t.sum → s.left ≡ t.left → s.number ≡ t.number → s.heard ≡ t.heard → sold_words s ≡ sold_words t
+  sold_as s t a b c d = rw (a, b, c, d)
 
   rests : (g : Brings buying id n now limit xs) → Rests g.q n side g.s
-  rests g = subst (λ (es : List Entry). Rests g.q n es g.s) (behind-is id now limit xs buying g.q g.quoted) g.rests
+  rests g = subst (λ (es : List Entry). Rests g.q n es g.s) (behind_is id now limit xs buying g.q g.quoted) g.rests
 
   -- what stands in the room
   words : (g : Brings buying id n now limit xs) → sold_words g.s ≡ sold_words sale
   words g =
       let r = rests g in
-      let q = of-quote id now limit xs g.q (on-board id now limit xs g.q g.quoted) in
-      sold-as g.s sale r.sum r.left (r.number ∙ ap (λ (q : Quote). q.number) q) (r.heard ∙ ap (λ (q : Quote). q.heard) q)
+      let q = of_quote id now limit xs g.q (on_board id now limit xs g.q g.quoted) in
+      sold_as g.s sale r.sum r.left (r.number ∙ ap (λ (q : Quote). q.number) q) (r.heard ∙ ap (λ (q : Quote). q.heard) q)
 
-  out-is : (out : List ℕ) → lot_answer buying id n now limit out xs ≡ 0 → (g : Brings buying id n now limit xs) → lot_out buying id n now limit out xs ≡ sets out 0 (sold_words sale)
+  out_is : (out : List ℕ) → lot_answer buying id n now limit out xs ≡ 0 → (g : Brings buying id n now limit xs) → lot_out buying id n now limit out xs ≡ sets out 0 (sold_words sale)
   unfolding lot_out
-  out-is out a g = rw (a, g.lotted) (ap (sets out 0) (words g))
+  out_is out a g = rw (a, g.lotted) (ap (sets out 0) (words g))
 
 -- ---- and then it is dated
-pub lots-are-dated : LotsAreDated
-lots-are-dated depth stream n d w ids xs e cs p buying units now limit out a =
+pub lots_are_dated : LotsAreDated
+lots_are_dated depth stream n d w ids xs e cs p buying units now limit out a =
     let ys = lefts cs (open_store depth ids xs) in
-    let t = (lots-are-ordered buying d units now limit out ys).given a in
-    let b = on-board d now limit ys t.q t.quoted in
+    let t = (lots_are_ordered buying d units now limit out ys).given a in
+    let b = on_board d now limit ys t.q t.quoted in
     let g = given_by d now limit (board_at ys) (ap quote_number b.quoted) in
     let (k, z) = counted depth stream n d w ids xs e cs p now limit (quote_of d now limit (board_at ys)) g in
     let side = side_for buying (inst d (board_at ys)).book in
@@ -127,27 +127,27 @@ lots-are-dated depth stream n d w ids xs e cs p buying units now limit out a =
       k = k;
       heard = (board_at ys).heard;
       book = (inst d (board_at ys)).book;
-      as-of = as-of depth stream n d w ids xs e cs p now limit (quote_of d now limit (board_at ys)) g k z;
+      as_of = as_of depth stream n d w ids xs e cs p now limit (quote_of d now limit (board_at ys)) g k z;
       fit = (rests buying d units now limit ys t).fit;
-      room = out-is buying d units now limit ys out a t
+      room = out_is buying d units now limit ys out a t
           ∙ ap (λ (H : ℕ). sets out 0 (sold_words (record { sum = sum_over units side; left = left_of units side; number = H; heard = (board_at ys).heard }))) z;
     }
 
-pub lots-over-by-stream : LotsOverByStream
-lots-over-by-stream depth stream n d w ids xs e cs p buying units now limit out a =
+pub lots_over_by_stream : LotsOverByStream
+lots_over_by_stream depth stream n d w ids xs e cs p buying units now limit out a =
     let ys = lefts cs (open_store depth ids xs) in
-    let (l, (r, (u, (j, (m, o))))) = (lots-are-ordered buying d units now limit out ys).only a in
-    let (q, f) = is-quoted d now limit ys (quoted_of d now limit ys) r in
-    let b = on-board d now limit ys q f in
+    let (l, (r, (u, (j, (m, o))))) = (lots_are_ordered buying d units now limit out ys).only a in
+    let (q, f) = is_quoted d now limit ys (quoted_of d now limit ys) r in
+    let b = on_board d now limit ys q f in
     let g = given_by d now limit (board_at ys) (ap quote_number b.quoted) in
     let (k, z) = counted depth stream n d w ids xs e cs p now limit (quote_of d now limit (board_at ys)) g in
     record {
       k = k;
       heard = (board_at ys).heard;
       book = (inst d (board_at ys)).book;
-      as-of = as-of depth stream n d w ids xs e cs p now limit (quote_of d now limit (board_at ys)) g k z;
+      as_of = as_of depth stream n d w ids xs e cs p now limit (quote_of d now limit (board_at ys)) g k z;
       j = j;
-      over = ap (λ (es : List Entry). fits (sum_after units es j)) (sym (behind-is d now limit ys buying q f)) ∙ o;
+      over = ap (λ (es : List Entry). fits (sum_after units es j)) (sym (behind_is d now limit ys buying q f)) ∙ o;
     }
 
 -- ---- a lot beside a quote
@@ -155,101 +155,101 @@ front : (l : List ℕ) (a b c : ℕ) (us : List ℕ) → 3 ≤ length l → take
 front [] a b c us h = absurd (omega arith)
 front (x ∷ []) a b c us h = absurd (omega arith)
 front (x ∷ y ∷ []) a b c us h = absurd (omega arith)
-front (x ∷ y ∷ z ∷ l) a b c us h = take-sets 3 (a ∷ b ∷ c ∷ l) 3 us (omega arith)
+front (x ∷ y ∷ z ∷ l) a b c us h = take_sets 3 (a ∷ b ∷ c ∷ l) 3 us (omega arith)
 
-lot-front : (out : List ℕ) (s : Sold) → 3 ≤ length out → take 3 (sets out 0 (sold_words s)) ≡ s.number ∷ moment_words s.heard
-lot-front out s h = front out s.number (date_number (day_part s.heard)) (time_number (time_part s.heard)) (bits_of s.sum ∷ s.left ∷ []) h
+lot_front : (out : List ℕ) (s : Sold) → 3 ≤ length out → take 3 (sets out 0 (sold_words s)) ≡ s.number ∷ moment_words s.heard
+lot_front out s h = front out s.number (date_number (day_part s.heard)) (time_number (time_part s.heard)) (bits_of s.sum ∷ s.left ∷ []) h
 
-quote-front : (room : List ℕ) (depth : ℕ) (q : Quote) → 3 ≤ length room → take 3 (sets room 0 (quote_words depth q)) ≡ q.number ∷ moment_words q.heard
-quote-front room depth q h =
+quote_front : (room : List ℕ) (depth : ℕ) (q : Quote) → 3 ≤ length room → take 3 (sets room 0 (quote_words depth q)) ≡ q.number ∷ moment_words q.heard
+quote_front room depth q h =
     front room q.number (date_number (day_part q.heard)) (time_number (time_part q.heard)) (top_words depth q.bid ++ top_words depth q.offer) h
 
 module _ (buying : Bool) (id n : ℕ) (now : List ℕ) (limit : ℕ) (room out xs : List ℕ) (l : quote_size ≤ length room) (k : lot_size ≤ length out) where
-  quote-is : quote_answer id now limit room xs ≡ quote_number (quoted_of id now limit xs)
+  quote_is : quote_answer id now limit room xs ≡ quote_number (quoted_of id now limit xs)
   unfolding quote_answer quoted_of
-  quote-is = rw (le-leb quote_size (length room) l) (go (sound xs))
+  quote_is = rw (le-leb quote_size (length room) l) (go (sound xs))
     where
       go : (t : Bool) → cond t (quote_number (quote_of id now limit (board_at xs))) 17 ≡ quote_number (cond t (quote_of id now limit (board_at xs)) Quoted.Unsound)
       go true = refl
       go false = refl
 
   refused : (quote_answer id now limit room xs ≡ 0 → ⊥) → lot_answer buying id n now limit out xs ≡ quote_answer id now limit room xs
-  refused h = (lots-are-ordered buying id n now limit out xs).quote k (λ z. h (quote-is ∙ z)) ∙ sym quote-is
+  refused h = (lots_are_ordered buying id n now limit out xs).quote k (λ z. h (quote_is ∙ z)) ∙ sym quote_is
 
   both : (g : Brings buying id n now limit xs) → quote_answer id now limit room xs ≡ 0
-  both g = quote-is ∙ ap quote_number g.quoted
+  both g = quote_is ∙ ap quote_number g.quoted
 
-  quote-out : (g : Brings buying id n now limit xs)
+  quote_out_lem : (g : Brings buying id n now limit xs)
       → quote_out id now limit room xs ≡ sets room 0 (quote_words (board_at xs).depth (given (board_at xs) (inst id (board_at xs))))
   unfolding quote_out
-  quote-out g =
-      let b = on-board id now limit xs g.q g.quoted in
-      rw (both g, b.quoted) (ap (λ (q : Quote). sets room 0 (quote_words (board_at xs).depth q)) (of-quote id now limit xs g.q b))
+  quote_out_lem g =
+      let b = on_board id now limit xs g.q g.quoted in
+      rw (both g, b.quoted) (ap (λ (q : Quote). sets room 0 (quote_words (board_at xs).depth q)) (of_quote id now limit xs g.q b))
 
   dated : lot_answer buying id n now limit out xs ≡ 0 → take 3 (lot_out buying id n now limit out xs) ≡ take 3 (quote_out id now limit room xs)
   dated a =
-      let g = (lots-are-ordered buying id n now limit out xs).given a in
-      ap (take 3) (out-is buying id n now limit xs out a g)
-      ∙ lot-front out (sale buying id n now limit xs) (omega (arith, k))
-      ∙ sym (quote-front room (board_at xs).depth (given (board_at xs) (inst id (board_at xs))) (omega (arith, l)))
-      ∙ ap (take 3) (sym (quote-out g))
+      let g = (lots_are_ordered buying id n now limit out xs).given a in
+      ap (take 3) (out_is buying id n now limit xs out a g)
+      ∙ lot_front out (sale buying id n now limit xs) (omega (arith, k))
+      ∙ sym (quote_front room (board_at xs).depth (given (board_at xs) (inst id (board_at xs))) (omega (arith, l)))
+      ∙ ap (take 3) (sym (quote_out_lem g))
 
   beside : BesideQuotes buying id n now limit room out xs
-  beside = record { refused = refused; given = λ a. both ((lots-are-ordered buying id n now limit out xs).given a); dated = dated }
+  beside = record { refused = refused; given = λ a. both ((lots_are_ordered buying id n now limit out xs).given a); dated = dated }
 
-pub lots-beside-quotes : LotsBesideQuotes
-lots-beside-quotes buying id n now limit room out xs l k = beside buying id n now limit room out xs l k
+pub lots_beside_quotes : LotsBesideQuotes
+lots_beside_quotes buying id n now limit room out xs l k = beside buying id n now limit room out xs l k
 
 -- ---- the hut that deals
 module _ (depth : ℕ) (xs : List ℕ) (c : Channel) (h : Holds depth xs c) (buying : Bool) (id n : ℕ) (now : List ℕ) (limit : ℕ) where
-  of-holds : (q : Quoted) → quote_of id now limit c.board ≡ q
+  of_holds : (q : Quoted) → quote_of id now limit c.board ≡ q
       → lotted_of buying id n now limit xs ≡ on_quote q n (if_quoted (λ p. side_for buying (inst id c.board).book) [] q)
   unfolding lotted_of quoted_of behind
-  of-holds q e = let b = ap (λ (k : Channel). k.board) h.same in rw (h.sound, b, e)
+  of_holds q e = let b = ap (λ (k : Channel). k.board) h.same in rw (h.sound, b, e)
 
-abbrev heard-at : ℕ
-heard-at = 64968180542000
+abbrev heard_at_lem : ℕ
+heard_at_lem = 64968180542000
 
-heard-words : moment_words heard-at ≡ 20250103 ∷ 130002000 ∷ []
+heard_words_lem : moment_words heard_at_lem ≡ 20250103 ∷ 130002000 ∷ []
 unfolding time_number day_of is_date leap months days_in days_to year_days days_before
-heard-words = ap (λ (d : ℕ). d ∷ time_number (time_part heard-at) ∷ []) (date-back 20250103 (omega arith) refl)
+heard_words_lem = ap (λ (d : ℕ). d ∷ time_number (time_part heard_at_lem) ∷ []) (date_back 20250103 (omega arith) refl)
 
-hut-quote : quote_of 7 at_five 30 end.board ≡ Quoted.Is (record { number = 3; heard = heard-at; bid = Top.Held bid-2; offer = Top.Held offer-3 })
+hut_quote : quote_of 7 at_five 30 end.board ≡ Quoted.Is (record { number = 3; heard = heard_at_lem; bid = Top.Held bid_2; offer = Top.Held offer_3 })
 unfolding applied after_action after_new after_change any_waiting look joining hit give gives count number entries_of run after snapshot.take snap feed loops.given in_row is_whole ended quote_of age_of millis moment_of date_of time_of clock_of minutes_of two_of digits_of is_date day_of leap months days_in days_to year_days days_before
-hut-quote = refl
+hut_quote = refl
 
 -- what 6 units bring and cost
-abbrev hut-sum : Bool → ℤ
-hut-sum buying = cond buying (hundredths 14430) (hundredths 12010)
+abbrev hut_sum : Bool → ℤ
+hut_sum buying = cond buying (hundredths 14430) (hundredths 12010)
 
-abbrev hut-left : Bool → ℕ
-hut-left buying = cond buying 0 1
+abbrev hut_left : Bool → ℕ
+hut_left buying = cond buying 0 1
 
-hut-sold : (buying : Bool) (q : Quote) → on_quote (Quoted.Is q) 6 (side_for buying (record { bids = bid-2 ∷ []; offers = offer-3 ∷ [] }))
-    ≡ Lotted.Is (record { sum = hut-sum buying; left = hut-left buying; number = q.number; heard = q.heard })
+hut_sold : (buying : Bool) (q : Quote) → on_quote (Quoted.Is q) 6 (side_for buying (record { bids = bid_2 ∷ []; offers = offer_3 ∷ [] }))
+    ≡ Lotted.Is (record { sum = hut_sum buying; left = hut_left buying; number = q.number; heard = q.heard })
 unfolding fits units_of left_of value_of all_fit lot_of
-hut-sold true q = refl
-hut-sold false q = refl
+hut_sold true q = refl
+hut_sold false q = refl
 
 module _ (xs room : List ℕ) (e : open_answer 0 ours xs ≡ 0) (l : lot_size ≤ length room) (buying : Bool) where
-  hut-lotted : lotted_of buying 7 6 at_five 30 (lefts received (open_store 0 ours xs))
-      ≡ Lotted.Is (record { sum = hut-sum buying; left = hut-left buying; number = 3; heard = heard-at })
-  hut-lotted =
-      of-holds 0 (lefts received (open_store 0 ours xs)) end (hut-holds xs e) buying 7 6 at_five 30 _ hut-quote
-      ∙ ap (λ (b : Lists). on_quote (Quoted.Is (record { number = 3; heard = heard-at; bid = Top.Held bid-2; offer = Top.Held offer-3 })) 6 (side_for buying b)) book
-      ∙ hut-sold buying (record { number = 3; heard = heard-at; bid = Top.Held bid-2; offer = Top.Held offer-3 })
+  hut_lotted : lotted_of buying 7 6 at_five 30 (lefts received (open_store 0 ours xs))
+      ≡ Lotted.Is (record { sum = hut_sum buying; left = hut_left buying; number = 3; heard = heard_at_lem })
+  hut_lotted =
+      of_holds 0 (lefts received (open_store 0 ours xs)) end (hut_holds xs e) buying 7 6 at_five 30 _ hut_quote
+      ∙ ap (λ (b : Lists). on_quote (Quoted.Is (record { number = 3; heard = heard_at_lem; bid = Top.Held bid_2; offer = Top.Held offer_3 })) 6 (side_for buying b)) book
+      ∙ hut_sold buying (record { number = 3; heard = heard_at_lem; bid = Top.Held bid_2; offer = Top.Held offer_3 })
 
-  hut-answer : lot_answer buying 7 6 at_five 30 room (lefts received (open_store 0 ours xs)) ≡ 0
+  hut_answer : lot_answer buying 7 6 at_five 30 room (lefts received (open_store 0 ours xs)) ≡ 0
   unfolding lot_answer
-  hut-answer = rw (hut-lotted, le-leb lot_size (length room) l)
+  hut_answer = rw (hut_lotted, le-leb lot_size (length room) l)
 
-  hut-out : lot_out buying 7 6 at_five 30 room (lefts received (open_store 0 ours xs)) ≡ sets room 0 (3 ∷ 20250103 ∷ 130002000 ∷ bits_of (hut-sum buying) ∷ hut-left buying ∷ [])
+  hut_out : lot_out buying 7 6 at_five 30 room (lefts received (open_store 0 ours xs)) ≡ sets room 0 (3 ∷ 20250103 ∷ 130002000 ∷ bits_of (hut_sum buying) ∷ hut_left buying ∷ [])
   unfolding lot_out
-  hut-out = rw (hut-answer, hut-lotted) (ap (λ (m : List ℕ). sets room 0 (3 ∷ m ++ (bits_of (hut-sum buying) ∷ hut-left buying ∷ []))) heard-words)
+  hut_out = rw (hut_answer, hut_lotted) (ap (λ (m : List ℕ). sets room 0 (3 ∷ m ++ (bits_of (hut_sum buying) ∷ hut_left buying ∷ []))) heard_words_lem)
 
-pub hut-deals : HutDeals
+pub hut_deals : HutDeals
 unfolding bits_of
-hut-deals xs room e l = (
-  record { answer = hut-answer xs room e l false; out = hut-out xs room e l false },
-  record { answer = hut-answer xs room e l true; out = hut-out xs room e l true },
+hut_deals xs room e l = (
+  record { answer = hut_answer xs room e l false; out = hut_out xs room e l false },
+  record { answer = hut_answer xs room e l true; out = hut_out xs room e l true },
 )

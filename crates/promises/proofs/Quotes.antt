@@ -25,14 +25,14 @@ use Rattle.board.specs.Demand.{NumberedFromOne, NeverBreaks, book_at}
 use Rattle.loops.specs.Channel.{Channel}
 use Rattle.loops.specs.Calls.{calls, opened_channel}
 use Rattle.loops.specs.Demand.{RightBy}
-use Rattle.loops.proofs.Demand.{opened-channel, right-through}
-use Rattle.loops.proofs.Lowering.{lowers, lowers-is}
-use Rattle.opening.proofs.Laws.{opens-is}
+use Rattle.loops.proofs.Demand.{opened_channel_lem, right_through}
+use Rattle.loops.proofs.Lowering.{lowers, lowers_is}
+use Rattle.opening.proofs.Laws.{opens_is}
 use Rattle.promises.specs.Acts.{Act, lefts, Along, call_of}
 use Rattle.promises.specs.Recovery.{read_in, Supposed}
 use Rattle.promises.specs.Quotes.{AsOf, Dated, QuotesAreDated}
-use Rattle.promises.proofs.Recovery.{Holds, along, holds, starts, ranged, right_of, recovers-stream}
-use Rattle.promises.proofs.Heard.{Heard, heard-after}
+use Rattle.promises.proofs.Recovery.{Holds, along, holds, starts, ranged, right_of, recovers_stream}
+use Rattle.promises.proofs.Heard.{Heard, heard_after}
 
 -- ---- what an answer 0 says
 pub record Given (i : ℕ) (now : List ℕ) (limit : ℕ) (b : Board) (q : Quoted) : Type 0 where
@@ -48,8 +48,8 @@ no : {A : Type 0} {n : ℕ} → suc n ≡ 0 → A
 no e = absurd (omega (arith, e))
 
 module _ (i : ℕ) (now : List ℕ) (limit : ℕ) (b : Board) (t : ℕ) (m : moment_of now ≡ Number.Is t) where
-  at-time : quote_number (quote_at i t limit b) ≡ 0 → Given i now limit b (quote_at i t limit b)
-  at-time = go (leb (length b.insts) i) (at i b).waiting (eqb b.H 0) (lt_z (age_of t b.heard) (pos 0)) (lt_z (pos (limit * 1000)) (age_of t b.heard)) refl refl refl refl
+  at_time : quote_number (quote_at i t limit b) ≡ 0 → Given i now limit b (quote_at i t limit b)
+  at_time = go (leb (length b.insts) i) (at i b).waiting (eqb b.H 0) (lt_z (age_of t b.heard) (pos 0)) (lt_z (pos (limit * 1000)) (age_of t b.heard)) refl refl refl refl
     where
       go : (f w z s l : Bool) → (at i b).waiting ≡ w → eqb b.H 0 ≡ z → lt_z (age_of t b.heard) (pos 0) ≡ s → lt_z (pos (limit * 1000)) (age_of t b.heard) ≡ l
           → quote_number (cond f Quoted.NotFollowed (cond w Quoted.Waiting (cond z Quoted.NothingHeard (cond s Quoted.BeforeHeard (cond l Quoted.TooOld (Quoted.Is (given b (at i b)))))))) ≡ 0
@@ -72,17 +72,17 @@ given_by id now limit b = go (moment_of now) refl
 
     fine : (z : Bool) (t : ℕ) → moment_of now ≡ Number.Is t → quote_number (cond z (quote_at i t limit b) Quoted.BadArgument) ≡ 0
         → Given i now limit b (cond z (quote_at i t limit b) Quoted.BadArgument)
-    fine true t m e = at-time i now limit b t m e
+    fine true t m e = at_time i now limit b t m e
     fine false t m e = no e
 
     go : (n : Number) → moment_of now ≡ n → quote_number (at_now n id limit b) ≡ 0 → Given i now limit b (at_now n id limit b)
     go Number.No m e = no e
     go (Number.Is t) m e = fine (id_fine id && leb limit most_limit) t m e
 
-pub given-of : (id : ℕ) (now : List ℕ) (limit : ℕ) (out xs : List ℕ) → quote_answer id now limit out xs ≡ 0
+pub given_of : (id : ℕ) (now : List ℕ) (limit : ℕ) (out xs : List ℕ) → quote_answer id now limit out xs ≡ 0
     → Given (look id (board_at xs).insts) now limit (board_at xs) (quote_of id now limit (board_at xs))
 unfolding quote_answer
-given-of id now limit out xs = go (sound xs) (leb quote_size (length out))
+given_of id now limit out xs = go (sound xs) (leb quote_size (length out))
   where
     go : (s r : Bool) → cond s (cond r (quote_number (quote_of id now limit (board_at xs))) 18) 17 ≡ 0
         → Given (look id (board_at xs).insts) now limit (board_at xs) (quote_of id now limit (board_at xs))
@@ -101,14 +101,14 @@ module _ (depth : ℕ) (stream : List (List ℕ)) (n : NumberedFromOne (read_in 
   abbrev made : List Call
   made = map (call_of depth) cs
 
-  end-holds : Holds depth (lefts cs (open_store depth ids xs)) (calls made (opened_channel depth ids))
-  end-holds = holds depth cs (open_store depth ids xs) (opened_channel depth ids) (starts depth ids xs e)
+  end_holds : Holds depth (lefts cs (open_store depth ids xs)) (calls made (opened_channel depth ids))
+  end_holds = holds depth cs (open_store depth ids xs) (opened_channel depth ids) (starts depth ids xs e)
 
-  is-end : end ≡ (calls made (opened_channel depth ids)).board
-  is-end = ap (λ (c : Channel). c.board) end-holds.same
+  is_end : end ≡ (calls made (opened_channel depth ids)).board
+  is_end = ap (λ (c : Channel). c.board) end_holds.same
 
-  pub end-kind : end.depth ≡ depth
-  end-kind = ap (λ (b : Board). b.depth) is-end ∙ end-holds.kind
+  pub end_kind : end.depth ≡ depth
+  end_kind = ap (λ (b : Board). b.depth) is_end ∙ end_holds.kind
 
   -- as calls on the board, the loops' ends among them
   heard : Heard (read_in depth stream) end
@@ -116,11 +116,11 @@ module _ (depth : ℕ) (stream : List (List ℕ)) (n : NumberedFromOne (read_in 
       let ms = read_in depth stream in
       let c = opened_channel depth ids in
       let h = starts depth ids xs e in
-      let o = opened-channel depth ids (opens-is depth ids xs e) in
+      let o = opened_channel_lem depth ids (opens_is depth ids xs e) in
       let f = ranged depth cs (open_store depth ids xs) c h in
       let r = along depth (Supposed depth stream d) (RightBy ms d) (right_of depth stream d) cs (open_store depth ids xs) c h p in
-      let b = lowers-is made c o f in
-      rw (is-end, sym b) (heard-after ms n d depth ids (lowers made c) (right-through ms d made c o f r))
+      let b = lowers_is made c o f in
+      rw (is_end, sym b) (heard_after ms n d depth ids (lowers made c) (right_through ms d made c o f r))
 
   module _ (q : Quoted) (g : Given (look d end.insts) now limit end q) where
     pub counted : (k : ℕ) × (end.H ≡ suc k)
@@ -130,13 +130,13 @@ module _ (depth : ℕ) (stream : List (List ℕ)) (n : NumberedFromOne (read_in 
         go zero z = absurd (true≢false (ap (λ (n : ℕ). eqb n 0) (sym z) ∙ g.some))
         go (suc k) z = (k, z)
 
-    pub as-of : (k : ℕ) → end.H ≡ suc k → AsOf depth stream d now limit k end.heard (inst d end).book
-    as-of k z =
+    pub as_of : (k : ℕ) → end.H ≡ suc k → AsOf depth stream d now limit k end.heard (inst d end).book
+    as_of k z =
         let (us, m) = heard k z in
         record {
           entries = us;
           message = m;
-          streamed = ap (book_at (read_in depth stream) d) (sym z) ∙ recovers-stream depth stream n d w ids xs e cs p g.live;
+          streamed = ap (book_at (read_in depth stream) d) (sym z) ∙ recovers_stream depth stream n d w ids xs e cs p g.live;
           time = g.time;
           asked = g.asked;
           since = g.since;
@@ -145,12 +145,12 @@ module _ (depth : ℕ) (stream : List (List ℕ)) (n : NumberedFromOne (read_in 
 
     dated : (out : List ℕ) (k : ℕ) → end.H ≡ suc k → Dated depth stream d now limit out (sets out 0 (quote_values end.depth q))
     dated out k z =
-        record { k = k; heard = end.heard; book = (inst d end).book; as-of = as-of k z; room = rw (g.said, end-kind, z) }
+        record { k = k; heard = end.heard; book = (inst d end).book; as_of = as_of k z; room = rw (g.said, end_kind, z) }
 
-pub quotes-are-dated : QuotesAreDated
+pub quotes_are_dated : QuotesAreDated
 unfolding quote_out
-quotes-are-dated depth stream n d w ids xs e cs p now limit out a =
+quotes_are_dated depth stream n d w ids xs e cs p now limit out a =
     let q = quote_of d now limit (board_at (lefts cs (open_store depth ids xs))) in
-    let g = given-of d now limit out (lefts cs (open_store depth ids xs)) a in
+    let g = given_of d now limit out (lefts cs (open_store depth ids xs)) a in
     let (k, z) = counted depth stream n d w ids xs e cs p now limit q g in
     rw a (dated depth stream n d w ids xs e cs p now limit q g out k z)

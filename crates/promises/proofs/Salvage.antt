@@ -15,14 +15,14 @@ use Rattle.frame.specs.declared.Framed.{Framed}
 use Rattle.message.specs.Message.{Message, numbered, snapshot, refused}
 use Rattle.board.specs.Board.{Board, waiting_in}
 use Rattle.board.specs.Feed.{feed}
-use Rattle.board.proofs.Answers.{answers-in-table}
+use Rattle.board.proofs.Answers.{answers_in_table}
 use Rattle.lead.specs.Messages.{typed_as, or_bad_fields}
 use Rattle.fields.specs.Messages.{framed_as, message_in}
-use Rattle.fields.proofs.Unbroken.{is_read, typed-well}
+use Rattle.fields.proofs.Unbroken.{is_read, typed_well}
 use Rattle.stretch.specs.Stretches.{passes}
 use Rattle.salvage.specs.Pieces.{Piece, message, passed, pieces, Messages}
-use Rattle.salvage.proofs.Laws.{walk-is-whole, whole-taken}
-use Rattle.loops.proofs.Laws.{answer-is-own}
+use Rattle.salvage.proofs.Laws.{walk_is_whole, whole_taken}
+use Rattle.loops.proofs.Laws.{answer_is_own}
 use Rattle.store.specs.Meaning.{board_at, channel_at}
 use Rattle.sound.specs.Sound.{sound}
 use Rattle.feed.specs.Feeding.{fed, feed_answer}
@@ -39,10 +39,10 @@ small a l =
 read_small : (m : Message) (b : Board) → is_read m ≡ true → refused_by (feed m b).answer ≡ false
 read_small (numbered n heard us) b h =
     let a = (feed (numbered n heard us) b).answer in
-    small a (omega (arith, leb-true a 3 (answers-in-table (numbered n heard us) b)))
+    small a (omega (arith, leb-true a 3 (answers_in_table (numbered n heard us) b)))
 read_small (snapshot s us) b h =
     let a = (feed (snapshot s us) b).answer in
-    small a (leb-true a 10 (both (leb 4 a) (leb a 10) (answers-in-table (snapshot s us) b)).1)
+    small a (leb-true a 10 (both (leb 4 a) (leb a 10) (answers_in_table (snapshot s us) b)).1)
 read_small (refused why) b h = absurd (false≢true h)
 
 framed_alike : (depth : ℕ) (s : List ℕ) (f : Framed) (b : Board) → passes f ≡ not (refused_by (feed (framed_as depth s f) b).answer)
@@ -54,14 +54,14 @@ framed_alike depth s (Framed.Is kind from) b = body (typed_as depth kind (body_o
   where
     body : (o : Option Message) → typed_as depth kind (body_of s) ≡ o → true ≡ not (refused_by (feed (or_bad_fields o) b).answer)
     body none e = refl
-    body (some m) e = rw (read_small m b (typed-well (body_of s) depth kind e).read)
+    body (some m) e = rw (read_small m b (typed_well (body_of s) depth kind e).read)
 
 passing : (bytes xs : List ℕ) → sound xs ≡ true → passes (frame_of bytes) ≡ not (refused_by (feed_answer bytes xs))
 unfolding feed_answer fed message_in
 passing bytes xs h =
     let b = board_at xs in
     let o = fed bytes (channel_at xs) in
-    rw (h, add-mul-mod_self_left o.answer 256 (waiting_in o.channel.board.insts), answer-is-own (framed_as b.depth bytes (frame_of bytes)) (channel_at xs))
+    rw (h, add-mul-mod_self_left o.answer 256 (waiting_in o.channel.board.insts), answer_is_own (framed_as b.depth bytes (frame_of bytes)) (channel_at xs))
     (framed_alike b.depth bytes (frame_of bytes) b)
 
 -- ---- the messages of a walk
@@ -77,18 +77,18 @@ never bytes xs h = go (sound xs) refl
     go true q = off (refused_by ((fed bytes (channel_at xs)).answer + 256 * waiting_in (fed bytes (channel_at xs)).channel.board.insts)) (sym h ∙ rw q at (passing bytes xs q))
     go false q = refl
 
-each-message : (rec : List ℕ) (ps : List Piece) → Messages (λ p n. passes (frame_of (take n (drop p rec))) ≡ true) ps
+each_message : (rec : List ℕ) (ps : List Piece) → Messages (λ p n. passes (frame_of (take n (drop p rec))) ≡ true) ps
     → Messages (λ p n. (xs : List ℕ) → refused_by (feed_answer (take n (drop p rec)) xs) ≡ false) ps
-each-message rec [] h = tt
-each-message rec (message p n ∷ ps) h = (λ xs. never (take n (drop p rec)) xs h.0, each-message rec ps h.1)
-each-message rec (passed p n ∷ ps) h = each-message rec ps h
+each_message rec [] h = tt
+each_message rec (message p n ∷ ps) h = (λ xs. never (take n (drop p rec)) xs h.0, each_message rec ps h.1)
+each_message rec (passed p n ∷ ps) h = each_message rec ps h
 
 -- ---- what we write
-read-passes : (depth : ℕ) (s : List ℕ) (f : Framed) → is_read (framed_as depth s f) ≡ true → passes f ≡ true
-read-passes depth s Framed.BadFrame h = absurd (false≢true h)
-read-passes depth s Framed.BadSum h = absurd (false≢true h)
-read-passes depth s Framed.BadType h = refl
-read-passes depth s (Framed.Is kind from) h = refl
+read_passes : (depth : ℕ) (s : List ℕ) (f : Framed) → is_read (framed_as depth s f) ≡ true → passes f ≡ true
+read_passes depth s Framed.BadFrame h = absurd (false≢true h)
+read_passes depth s Framed.BadSum h = absurd (false≢true h)
+read_passes depth s Framed.BadType h = refl
+read_passes depth s (Framed.Is kind from) h = refl
 
 written_stands : (xs : List ℕ) (id : ℕ) (sender target : List ℕ) (k m : ℕ) (time out : List ℕ) (n : ℕ) (rest : List ℕ)
     → send_answer id sender target k m time out xs ≡ 256 * n
@@ -97,12 +97,12 @@ unfolding message_in
 written_stands xs id sender target k m time out n rest e =
     let bytes = take n (send_out id sender target k m time out xs) in
     let x = round_trip xs id sender target k m time out n e in
-    whole-taken bytes rest (read-passes (board_at xs).depth bytes (frame_of bytes) (ap is_read x.message))
+    whole_taken bytes rest (read_passes (board_at xs).depth bytes (frame_of bytes) (ap is_read x.message))
 
-pub salvage-promises : SalvagePromises
-salvage-promises =
+pub salvage_promises : SalvagePromises
+salvage_promises =
     record {
       passing = passing;
-      feeding = λ rec from l. each-message rec (pieces rec from) (walk-is-whole rec from l).good;
+      feeding = λ rec from l. each_message rec (pieces rec from) (walk_is_whole rec from l).good;
       writing = written_stands;
     }

@@ -9,9 +9,9 @@ use Rattle.board.specs.Sound.{opens}
 use Rattle.store.specs.Layout.{store_size}
 use Rattle.sound.specs.Sound.{sound}
 use Rattle.sound.specs.Settled.{Allowed}
-use Rattle.sound.proofs.Laws.{earlier-is-unsound}
+use Rattle.sound.proofs.Laws.{earlier_is_unsound}
 use Rattle.opening.specs.Opening.{open_answer}
-use Rattle.opening.proofs.Laws.{opened-is-sound}
+use Rattle.opening.proofs.Laws.{opened_is_sound}
 use Rattle.loops.specs.Laws.{touches}
 use Rattle.feed.specs.Feeding.{feed_answer}
 use Rattle.ask.specs.Ask.{quote_answer, state_answer}
@@ -22,7 +22,7 @@ use Rattle.lots.specs.Lots.{lotted_of}
 use Rattle.lots.specs.Rooms.{lot_answer}
 use Rattle.promises.specs.Refusals.{Stays, is_done}
 use Rattle.promises.specs.Unsound.{Refuses, Refused, UnsoundIsRefused, OlderIsRefused}
-use Rattle.promises.proofs.Refusals.{refusals-stay}
+use Rattle.promises.proofs.Refusals.{refusals_stay}
 
 -- 17 changes nothing
 stays : (changing : ℕ → Bool) (allows : Allowed) (lent : List ℕ) → changing 17 ≡ false → Stays changing allows lent
@@ -30,48 +30,48 @@ stays : (changing : ℕ → Bool) (allows : Allowed) (lent : List ℕ) → chang
 stays changing allows lent c s e r ys o = (e r ys o, s r ys o (ap (λ (n : ℕ). changing (n % 256)) (e r ys o) ∙ c))
 
 module _ (xs : List ℕ) (h : sound xs ≡ false) where
-  feed-17 : (bytes : List ℕ) → feed_answer bytes xs ≡ 17
+  feed_17 : (bytes : List ℕ) → feed_answer bytes xs ≡ 17
   unfolding feed_answer
-  feed-17 bytes = rw h
+  feed_17 bytes = rw h
 
-  quote-17 : (id : ℕ) (now : List ℕ) (limit : ℕ) (room : List ℕ) → quote_answer id now limit room xs ≡ 17
+  quote_17 : (id : ℕ) (now : List ℕ) (limit : ℕ) (room : List ℕ) → quote_answer id now limit room xs ≡ 17
   unfolding quote_answer
-  quote-17 id now limit room = rw h
+  quote_17 id now limit room = rw h
 
-  write-17 : (id : ℕ) (sender target : List ℕ) (k m : ℕ) (time room : List ℕ) → send_answer id sender target k m time room xs ≡ 17
+  write_17 : (id : ℕ) (sender target : List ℕ) (k m : ℕ) (time room : List ℕ) → send_answer id sender target k m time room xs ≡ 17
   unfolding send_answer sent_page
-  write-17 id sender target k m time room = rw h
+  write_17 id sender target k m time room = rw h
 
-  state-17 : (id : ℕ) (room : List ℕ) → state_answer id room xs ≡ 17
+  state_17 : (id : ℕ) (room : List ℕ) → state_answer id room xs ≡ 17
   unfolding state_answer
-  state-17 id room = rw h
+  state_17 id room = rw h
 
-  summary-17 : (room : List ℕ) → summary_answer room xs ≡ 17
+  summary_17 : (room : List ℕ) → summary_answer room xs ≡ 17
   unfolding summary_answer
-  summary-17 room = rw h
+  summary_17 room = rw h
 
-  lot-17 : (buying : Bool) (id n : ℕ) (now : List ℕ) (limit : ℕ) (room : List ℕ) → lot_answer buying id n now limit room xs ≡ 17
+  lot_17 : (buying : Bool) (id n : ℕ) (now : List ℕ) (limit : ℕ) (room : List ℕ) → lot_answer buying id n now limit room xs ≡ 17
   unfolding lot_answer lotted_of quoted_of behind
-  lot-17 buying id n now limit room = rw h
+  lot_17 buying id n now limit room = rw h
 
-  open-0 : store_size ≤ length xs → (depth : ℕ) (ids : List ℕ) → opens depth ids ≡ true → open_answer depth ids xs ≡ 0
+  open_0 : store_size ≤ length xs → (depth : ℕ) (ids : List ℕ) → opens depth ids ≡ true → open_answer depth ids xs ≡ 0
   unfolding open_answer
-  open-0 l depth ids e = rw (le-leb store_size (length xs) l, e)
+  open_0 l depth ids e = rw (le-leb store_size (length xs) l, e)
 
   refused : Refused xs
   refused =
       record {
-        feeding = λ bytes. stays touches _ _ refl (refusals-stay.feeding bytes xs) (λ r ys o. o.answer ∙ feed-17 bytes);
-        quoting = λ id now limit room. stays is_done _ _ refl (refusals-stay.quoting id now limit room xs) (λ r ys o. o.answer ∙ quote-17 id now limit room);
-        writing = λ id sender target k m time room. stays is_done _ _ refl (refusals-stay.writing id sender target k m time room xs) (λ r ys o. o.answer ∙ write-17 id sender target k m time room);
-        stating = λ id room. stays is_done _ _ refl (refusals-stay.stating id room xs) (λ r ys o. o.answer ∙ state-17 id room);
-        summing = λ room. stays is_done _ _ refl (refusals-stay.summing room xs) (λ r ys o. o.answer ∙ summary-17 room);
-        dealing = λ buying id n now limit room. stays is_done _ _ refl (refusals-stay.dealing buying id n now limit room xs) (λ r ys o. o.answer ∙ lot-17 buying id n now limit room);
-        opening = λ l depth ids e r ys o. (o.answer ∙ open-0 l depth ids e, rw o.store (opened-is-sound depth ids xs (open-0 l depth ids e)));
+        feeding = λ bytes. stays touches _ _ refl (refusals_stay.feeding bytes xs) (λ r ys o. o.answer ∙ feed_17 bytes);
+        quoting = λ id now limit room. stays is_done _ _ refl (refusals_stay.quoting id now limit room xs) (λ r ys o. o.answer ∙ quote_17 id now limit room);
+        writing = λ id sender target k m time room. stays is_done _ _ refl (refusals_stay.writing id sender target k m time room xs) (λ r ys o. o.answer ∙ write_17 id sender target k m time room);
+        stating = λ id room. stays is_done _ _ refl (refusals_stay.stating id room xs) (λ r ys o. o.answer ∙ state_17 id room);
+        summing = λ room. stays is_done _ _ refl (refusals_stay.summing room xs) (λ r ys o. o.answer ∙ summary_17 room);
+        dealing = λ buying id n now limit room. stays is_done _ _ refl (refusals_stay.dealing buying id n now limit room xs) (λ r ys o. o.answer ∙ lot_17 buying id n now limit room);
+        opening = λ l depth ids e r ys o. (o.answer ∙ open_0 l depth ids e, rw o.store (opened_is_sound depth ids xs (open_0 l depth ids e)));
       }
 
-pub unsound-is-refused : UnsoundIsRefused
-unsound-is-refused xs h = refused xs h
+pub unsound_is_refused : UnsoundIsRefused
+unsound_is_refused xs h = refused xs h
 
-pub older-is-refused : OlderIsRefused
-older-is-refused xs e = refused xs (earlier-is-unsound xs e)
+pub older_is_refused : OlderIsRefused
+older_is_refused xs e = refused xs (earlier_is_unsound xs e)

@@ -6,8 +6,8 @@ use Rattle.board.specs.Demand.{NumberedFromOne, NeverBreaks}
 use Rattle.store.specs.Meaning.{board_at}
 use Rattle.opening.specs.Opening.{open_answer, open_store}
 use Rattle.feed.specs.Feeding.{feed_answer}
-use Rattle.samples.specs.Messages.{first, second, third, at_1, at-2, at-4, one_of_two, two-of-two, fourth}
-use Rattle.samples.specs.Says.{bid-2, offer-3, bid-4}
+use Rattle.samples.specs.Messages.{first, second, third, at_1, at_2, at_4, one_of_two, two_of_two, fourth}
+use Rattle.samples.specs.Says.{bid_2, offer_3, bid_4}
 use Rattle.promises.specs.Acts.{Act, feeds, reads, lefts, Along}
 use Rattle.promises.specs.Recovery.{read_in, Supposed}
 
@@ -16,7 +16,7 @@ stream = first ∷ second ∷ third ∷ []
 
 -- Counted, a gap, old, S below B, S above H, taken; a quote between them.
 unfoldable pub received : List Act
-received = feeds first ∷ feeds third ∷ feeds second ∷ feeds at_1 ∷ reads ∷ feeds at-4 ∷ feeds at-2 ∷ []
+received = feeds first ∷ feeds third ∷ feeds second ∷ feeds at_1 ∷ reads ∷ feeds at_4 ∷ feeds at_2 ∷ []
 
 -- The hut follows 7 on an order-depth channel.
 abbrev pub ours : List ℕ
@@ -29,7 +29,7 @@ pub record Recovered (xs : List ℕ) : Type 0 where
   pub right : Along (Supposed 0 stream 7) received (open_store 0 ours xs)
   pub live : Live 7 (board_at (lefts received (open_store 0 ours xs)))
   pub last : (board_at (lefts received (open_store 0 ours xs))).H ≡ 3
-  pub book : (inst 7 (board_at (lefts received (open_store 0 ours xs)))).book ≡ record { bids = bid-2 ∷ []; offers = offer-3 ∷ [] }
+  pub book : (inst 7 (board_at (lefts received (open_store 0 ours xs)))).book ≡ record { bids = bid_2 ∷ []; offers = offer_3 ∷ [] }
 
 abbrev pub HutRecovers : Type 0
 HutRecovers = (xs : List ℕ) → open_answer 0 ours xs ≡ 0 → Recovered xs
@@ -41,7 +41,7 @@ unfoldable pub longer : List (List ℕ)
 longer = first ∷ second ∷ third ∷ fourth ∷ []
 
 unfoldable pub until_whole : List Act
-until_whole = feeds first ∷ feeds third ∷ feeds one_of_two ∷ feeds one_of_two ∷ feeds fourth ∷ feeds two-of-two ∷ []
+until_whole = feeds first ∷ feeds third ∷ feeds one_of_two ∷ feeds one_of_two ∷ feeds fourth ∷ feeds two_of_two ∷ []
 
 abbrev pub both : List ℕ
 both = 7 ∷ 9 ∷ []
@@ -56,9 +56,9 @@ pub record WentLive (xs : List ℕ) : Type 0 where
   pub waits : (inst 9 (board_at (lefts (take 5 until_whole) (open_store 0 both xs)))).waiting ≡ true
   pub live : Live 9 (board_at (lefts until_whole (open_store 0 both xs)))
   pub last : (board_at (lefts until_whole (open_store 0 both xs))).H ≡ 4
-  pub book : (inst 9 (board_at (lefts until_whole (open_store 0 both xs)))).book ≡ record { bids = bid-4 ∷ []; offers = [] }
+  pub book : (inst 9 (board_at (lefts until_whole (open_store 0 both xs)))).book ≡ record { bids = bid_4 ∷ []; offers = [] }
   -- the call that ended the loop is answered 5, not followed, and none waits behind it
-  pub answer : feed_answer two-of-two (lefts (take 5 until_whole) (open_store 0 both xs)) ≡ 5
+  pub answer : feed_answer two_of_two (lefts (take 5 until_whole) (open_store 0 both xs)) ≡ 5
 
 abbrev pub OptionGoesLive : Type 0
 OptionGoesLive = (xs : List ℕ) → open_answer 0 both xs ≡ 0 → WentLive xs

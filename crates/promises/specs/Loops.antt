@@ -52,7 +52,7 @@ pub record Worked (bytes xs : List ℕ) (h : Head) (us : List Update) : Type 0 w
   pub last : (board_at (feed_store bytes xs)).H ≡ (board_at xs).H
   pub heard : (board_at (feed_store bytes xs)).heard ≡ (board_at xs).heard
   -- the board is as the W left it where it ends no loop, and where the lowest 369 lies outside B to H
-  pub not-whole : is_whole (joined_at h xs) ≡ false → board_at (feed_store bytes xs) ≡ left_by h us xs
+  pub not_whole : is_whole (joined_at h xs) ≡ false → board_at (feed_store bytes xs) ≡ left_by h us xs
   pub outside : within (left_by h us xs).B (board_at xs).H (joined_at h xs).low ≡ false → board_at (feed_store bytes xs) ≡ left_by h us xs
   -- and so is an instrument that the loop named, taken or not, and one that is Live
   pub named : (d : ℕ) → marked (joined_at h xs).named (look d (board_at xs).insts) ≡ true
@@ -65,7 +65,7 @@ SnapshotWorks =
     → Worked bytes xs h us
 
 pub record LoopPromises : Type 0 where
-  pub of-acts : LoopOfActs
+  pub of_acts : LoopOfActs
   pub joined : JoinedOfActs
   -- a W makes it whole exactly where it and those before it are 34 = 1, 2, up to 911 in a row with one 911 throughout, and its
   -- lowest 369 is the lowest of theirs

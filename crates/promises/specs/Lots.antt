@@ -21,7 +21,7 @@ pub record LotDated (depth : ℕ) (stream : List (List ℕ)) (d : ℕ) (buying :
   pub k : ℕ
   pub heard : ℕ
   pub book : Lists
-  pub as-of : AsOf depth stream d now limit k heard book
+  pub as_of : AsOf depth stream d now limit k heard book
   -- every sum down that book fits
   pub fit : (j : ℕ) → fits (sum_after n (side_for buying book) j) ≡ true
   -- and the whole one stands in the room, with what is left, our last number and its moment
@@ -44,7 +44,7 @@ pub record LotOver (depth : ℕ) (stream : List (List ℕ)) (d : ℕ) (buying : 
   pub k : ℕ
   pub heard : ℕ
   pub book : Lists
-  pub as-of : AsOf depth stream d now limit k heard book
+  pub as_of : AsOf depth stream d now limit k heard book
   pub j : ℕ
   pub over : fits (sum_after n (side_for buying book) j) ≡ false
 

@@ -20,8 +20,8 @@ use Rattle.opening.specs.Opening.{open_answer, open_store}
 use Rattle.feed.specs.Feeding.{fed, feed_store}
 use Rattle.ask.specs.Ask.{quote_size, quote_answer}
 use Rattle.send.specs.Send.{send_out}
-use Rattle.samples.specs.Messages.{empty-book, point-alone, too-many-decimals, eight-decimals, first, second, third, at_1, at-2, at-4}
-use Rattle.samples.specs.Says.{bid-2, offer-3, eight-says}
+use Rattle.samples.specs.Messages.{empty_book_lem, point_alone, too_many_decimals, eight_decimals, first, second, third, at_1, at_2, at_4}
+use Rattle.samples.specs.Says.{bid_2, offer_3, eight_says}
 
 -- M11: a fresh channel that follows 7, and what three messages leave of it.
 abbrev pub zero : Channel
@@ -39,7 +39,7 @@ three = (fed second two).channel
 -- M13 and M14: any store that opening takes for 7, once it has taken the empty book, and once it has then heard message 1, which
 -- was sent at 13:00:00.000.
 abbrev pub took_empty : List ℕ → List ℕ
-took_empty xs = feed_store empty-book (open_store 0 (7 ∷ []) xs)
+took_empty xs = feed_store empty_book_lem (open_store 0 (7 ∷ []) xs)
 
 abbrev pub heard_first : List ℕ → List ℕ
 heard_first xs = feed_store first (took_empty xs)
@@ -75,16 +75,16 @@ pub record MarkedCases : Type 0 where
   -- -0 is 0
   pub m3 : price_of (45 ∷ 48 ∷ []) ≡ Priced.Is (pos 0)
   -- 1. and 9 decimals refused, alone and in a message
-  pub m4-point : price_of (49 ∷ 46 ∷ []) ≡ Priced.No
-  pub m4-many : price_of (49 ∷ 46 ∷ 49 ∷ 50 ∷ 51 ∷ 52 ∷ 53 ∷ 54 ∷ 55 ∷ 56 ∷ 57 ∷ []) ≡ Priced.No
-  pub m4-point-read : message_in 0 point-alone ≡ refused BadFields
-  pub m4-many-read : message_in 0 too-many-decimals ≡ refused BadFields
+  pub m4_point : price_of (49 ∷ 46 ∷ []) ≡ Priced.No
+  pub m4_many : price_of (49 ∷ 46 ∷ 49 ∷ 50 ∷ 51 ∷ 52 ∷ 53 ∷ 54 ∷ 55 ∷ 56 ∷ 57 ∷ []) ≡ Priced.No
+  pub m4_point_read : message_in 0 point_alone ≡ refused BadFields
+  pub m4_many_read : message_in 0 too_many_decimals ≡ refused BadFields
   -- and 8 read
-  pub m4-eight-read : message_in 0 eight-decimals ≡ eight-says
+  pub m4_eight_read : message_in 0 eight_decimals ≡ eight_says
   -- 20240229 good, 20250229 and 19000229 not
-  pub m5-good : date_of (50 ∷ 48 ∷ 50 ∷ 52 ∷ 48 ∷ 50 ∷ 50 ∷ 57 ∷ []) ≡ Number.Is 739310
-  pub m5-2025 : date_of (50 ∷ 48 ∷ 50 ∷ 53 ∷ 48 ∷ 50 ∷ 50 ∷ 57 ∷ []) ≡ Number.No
-  pub m5-1900 : date_of (49 ∷ 57 ∷ 48 ∷ 48 ∷ 48 ∷ 50 ∷ 50 ∷ 57 ∷ []) ≡ Number.No
+  pub m5_good : date_of (50 ∷ 48 ∷ 50 ∷ 52 ∷ 48 ∷ 50 ∷ 50 ∷ 57 ∷ []) ≡ Number.Is 739310
+  pub m5_2025 : date_of (50 ∷ 48 ∷ 50 ∷ 53 ∷ 48 ∷ 50 ∷ 50 ∷ 57 ∷ []) ≡ Number.No
+  pub m5_1900 : date_of (49 ∷ 57 ∷ 48 ∷ 48 ∷ 48 ∷ 50 ∷ 50 ∷ 57 ∷ []) ≡ Number.No
   -- a,b,c with new x at 2: a,x,b,c
   pub m6 : (a b c x : Entry) → after_new (a ∷ b ∷ c ∷ []) 2 x ≡ leaves (a ∷ x ∷ b ∷ c ∷ [])
   -- a,b,c thru 2: c
@@ -95,24 +95,24 @@ pub record MarkedCases : Type 0 where
   pub m9 : (a b c x : Entry) → after_new (a ∷ b ∷ c ∷ []) 5 x ≡ breach 1
   -- 20 held, new at 21: reason 2; at 22: reason 1
   pub m10 : (l : List Entry) (x : Entry) → length l ≡ 20 → after_new l 21 x ≡ breach 2
-  pub m10-past : (l : List Entry) (x : Entry) → length l ≡ 20 → after_new l 22 x ≡ breach 1
+  pub m10_past : (l : List Entry) (x : Entry) → length l ≡ 20 → after_new l 22 x ≡ breach 1
   -- fresh, 34 = 1, 3, 2: answers 0, 1, 2, then B = 2, H = 3
-  pub m11-first : (fed first zero).answer ≡ 0
-  pub m11-third : (fed third one).answer ≡ 1
-  pub m11-second : (fed second two).answer ≡ 2
-  pub m11-base : three.board.B ≡ 2
-  pub m11-last : three.board.H ≡ 3
+  pub m11_first : (fed first zero).answer ≡ 0
+  pub m11_third : (fed third one).answer ≡ 1
+  pub m11_second : (fed second two).answer ≡ 2
+  pub m11_base : three.board.B ≡ 2
+  pub m11_last : three.board.H ≡ 3
   -- after it 369 = 1, 4, 2: 7, 8, taken with message 3 replayed
-  pub m12-below : (fed at_1 three).answer ≡ 7
-  pub m12-above : (fed at-4 three).answer ≡ 8
-  pub m12-taken : (fed at-2 three).answer ≡ 4
-  pub m12-book : (inst 7 (fed at-2 three).channel.board).book ≡ record { bids = bid-2 ∷ []; offers = offer-3 ∷ [] }
+  pub m12_below : (fed at_1 three).answer ≡ 7
+  pub m12_above : (fed at_4 three).answer ≡ 8
+  pub m12_taken : (fed at_2 three).answer ≡ 4
+  pub m12_book : (inst 7 (fed at_2 three).channel.board).book ≡ record { bids = bid_2 ∷ []; offers = offer_3 ∷ [] }
   -- heard 13:00:00.000, limit 30: 13:00:30.000 quoted, 13:00:30.001 is 24, 12:59:59.999 is 23
-  pub m13-heard : HeardAtOne
-  pub m13-quoted : QuotedWith 0 (49 ∷ 51 ∷ 58 ∷ 48 ∷ 48 ∷ 58 ∷ 51 ∷ 48 ∷ 46 ∷ 48 ∷ 48 ∷ 48 ∷ [])
-  pub m13-old : QuotedWith 24 (49 ∷ 51 ∷ 58 ∷ 48 ∷ 48 ∷ 58 ∷ 51 ∷ 48 ∷ 46 ∷ 48 ∷ 48 ∷ 49 ∷ [])
-  pub m13-ahead : QuotedWith 23 (49 ∷ 50 ∷ 58 ∷ 53 ∷ 57 ∷ 58 ∷ 53 ∷ 57 ∷ 46 ∷ 57 ∷ 57 ∷ 57 ∷ [])
+  pub m13_heard : HeardAtOne
+  pub m13_quoted : QuotedWith 0 (49 ∷ 51 ∷ 58 ∷ 48 ∷ 48 ∷ 58 ∷ 51 ∷ 48 ∷ 46 ∷ 48 ∷ 48 ∷ 48 ∷ [])
+  pub m13_old : QuotedWith 24 (49 ∷ 51 ∷ 58 ∷ 48 ∷ 48 ∷ 58 ∷ 51 ∷ 48 ∷ 46 ∷ 48 ∷ 48 ∷ 49 ∷ [])
+  pub m13_ahead : QuotedWith 23 (49 ∷ 50 ∷ 58 ∷ 53 ∷ 57 ∷ 58 ∷ 53 ∷ 57 ∷ 46 ∷ 57 ∷ 57 ∷ 57 ∷ [])
   -- the message for an empty book is what the writer writes; it has 110 bytes, and those before tag 10 sum to 29
-  pub m14-written : Writes empty-book
-  pub m14-length : length empty-book ≡ 110
-  pub m14-sum : total (take 103 empty-book) % 256 ≡ 29
+  pub m14_written : Writes empty_book_lem
+  pub m14_length : length empty_book_lem ≡ 110
+  pub m14_sum : total (take 103 empty_book_lem) % 256 ≡ 29

@@ -35,7 +35,7 @@ pub record Dated (depth : ℕ) (stream : List (List ℕ)) (d : ℕ) (now : List 
   pub k : ℕ
   pub heard : ℕ
   pub book : Lists
-  pub as-of : AsOf depth stream d now limit k heard book
+  pub as_of : AsOf depth stream d now limit k heard book
   -- place 1 of each side of that book stands in the room
   pub room :
       ys

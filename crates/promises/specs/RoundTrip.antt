@@ -22,7 +22,7 @@ pub record TakenBy (xs : List ℕ) (id : ℕ) (bytes ys : List ℕ) : Type 0 whe
 -- What the bytes are that a writing of the store xs leaves.
 pub record SameBook (xs : List ℕ) (id k m : ℕ) (time bytes : List ℕ) : Type 0 where
   pub sent : ℕ
-  pub at-time : moment_of time ≡ Number.Is sent
+  pub at_time : moment_of time ≡ Number.Is sent
   -- a W for that instrument with 34 = k, 911 = m, 369 = H and exactly the book's entries in order
   pub message :
       message_in (board_at xs).depth bytes

@@ -17,7 +17,7 @@ use Rattle.cells.specs.Cells.{side_at}
 use Rattle.moment.specs.Ages.{age_of}
 use Rattle.store.specs.Layout.{bids_of, offers_of}
 use Rattle.store.specs.Meaning.{State, board_in, board_of, inst_at}
-use Rattle.store.proofs.Decode.{insts-length, at-board}
+use Rattle.store.proofs.Decode.{insts_length, at_board}
 use Rattle.quote.specs.Quotes.{most_limit, top_of, aged_by, quote_at, quote_of}
 use Rattle.quote.specs.declared.Quote.{Quote}
 use Rattle.quote.specs.declared.Quoted.{Quoted}
@@ -33,54 +33,54 @@ told s i =
     }
 
 module _ (s : State) (i time limit : ℕ) where
-  pub not-followed : s.head.followed ≤ i → quote_at i time limit (board_in s) ≡ Quoted.NotFollowed
-  not-followed h = let e : leb (length (board_in s).insts) i ≡ true = rw (insts-length s) (le-leb s.head.followed i h) in rw e
+  pub not_followed : s.head.followed ≤ i → quote_at i time limit (board_in s) ≡ Quoted.NotFollowed
+  not_followed h = let e : leb (length (board_in s).insts) i ≡ true = rw (insts_length s) (le-leb s.head.followed i h) in rw e
 
-  followed-by : i < s.head.followed → leb (length (board_in s).insts) i ≡ false
-  followed-by h = rw (insts-length s) (lt-leb s.head.followed i h)
+  followed_by : i < s.head.followed → leb (length (board_in s).insts) i ≡ false
+  followed_by h = rw (insts_length s) (lt-leb s.head.followed i h)
 
-  waits-at : i < s.head.followed → (at i (board_in s)).waiting ≡ marked s.head.marks i
+  waits_at : i < s.head.followed → (at i (board_in s)).waiting ≡ marked s.head.marks i
   unfolding inst_at
-  waits-at h = ap (λ (x : Inst). x.waiting) (at-board i s h)
+  waits_at h = ap (λ (x : Inst). x.waiting) (at_board i s h)
 
-  pub is-waiting : i < s.head.followed → marked s.head.marks i ≡ true → quote_at i time limit (board_in s) ≡ Quoted.Waiting
-  is-waiting h w = let e : (at i (board_in s)).waiting ≡ true = waits-at h ∙ w in rw (followed-by h, e)
+  pub is_waiting : i < s.head.followed → marked s.head.marks i ≡ true → quote_at i time limit (board_in s) ≡ Quoted.Waiting
+  is_waiting h w = let e : (at i (board_in s)).waiting ≡ true = waits_at h ∙ w in rw (followed_by h, e)
 
   number_is : (board_in s).H ≡ s.head.number
   unfolding board_of
   number_is = refl
 
-  pub nothing-heard : i < s.head.followed → marked s.head.marks i ≡ false → s.head.number ≡ 0 → quote_at i time limit (board_in s) ≡ Quoted.NothingHeard
-  nothing-heard h w z =
-      let e : (at i (board_in s)).waiting ≡ false = waits-at h ∙ w in
+  pub nothing_heard : i < s.head.followed → marked s.head.marks i ≡ false → s.head.number ≡ 0 → quote_at i time limit (board_in s) ≡ Quoted.NothingHeard
+  nothing_heard h w z =
+      let e : (at i (board_in s)).waiting ≡ false = waits_at h ∙ w in
       let n : eqb (board_in s).H 0 ≡ true = rw number_is (eq-eqb s.head.number 0 z) in
-      rw (followed-by h, e, n)
+      rw (followed_by h, e, n)
 
-  pub is-quoted : i < s.head.followed → marked s.head.marks i ≡ false → (s.head.number ≡ 0 → ⊥)
+  pub is_quoted : i < s.head.followed → marked s.head.marks i ≡ false → (s.head.number ≡ 0 → ⊥)
       → quote_at i time limit (board_in s) ≡ aged_by (age_of time s.head.heard) limit (told s i)
   unfolding board_of inst_at
-  is-quoted h w z =
-      let e : (at i (board_in s)).waiting ≡ false = waits-at h ∙ w in
-      rw (followed-by h, e, ne_eqb s.head.number 0 z, at-board i s h)
+  is_quoted h w z =
+      let e : (at i (board_in s)).waiting ≡ false = waits_at h ∙ w in
+      rw (followed_by h, e, ne_eqb s.head.number 0 z, at_board i s h)
 
 -- where something is heard, its time is a moment
-pub heard-held : (n heard : ℕ) → (n ≡ 0 → ⊥) → heard_fine n heard ≡ true → heard < moments
-heard-held n heard z h = ltb-true heard moments (rw (ne_eqb n 0 z) at h)
+pub heard_held : (n heard : ℕ) → (n ≡ 0 → ⊥) → heard_fine n heard ≡ true → heard < moments
+heard_held n heard z h = ltb-true heard moments (rw (ne_eqb n 0 z) at h)
 
 -- the arguments' tests
 module _ (id time limit : ℕ) (b : Board) (text : List ℕ) where
-  pub no-moment : moment_of text ≡ Number.No → quote_of id text limit b ≡ Quoted.BadArgument
+  pub no_moment : moment_of text ≡ Number.No → quote_of id text limit b ≡ Quoted.BadArgument
   unfolding quote_of
-  no-moment e = rw e
+  no_moment e = rw e
 
   module _ (read : moment_of text ≡ Number.Is time) where
-    pub no-id : id_fine id ≡ false → quote_of id text limit b ≡ Quoted.BadArgument
+    pub no_id : id_fine id ≡ false → quote_of id text limit b ≡ Quoted.BadArgument
     unfolding quote_of
-    no-id e = rw (read, e)
+    no_id e = rw (read, e)
 
-    pub long-limit : id_fine id ≡ true → most_limit < limit → quote_of id text limit b ≡ Quoted.BadArgument
+    pub long_limit : id_fine id ≡ true → most_limit < limit → quote_of id text limit b ≡ Quoted.BadArgument
     unfolding quote_of
-    long-limit e k = rw (read, e, lt-leb limit most_limit k)
+    long_limit e k = rw (read, e, lt-leb limit most_limit k)
 
     pub good : id_fine id ≡ true → limit ≤ most_limit → quote_of id text limit b ≡ quote_at (look id b.insts) time limit b
     unfolding quote_of

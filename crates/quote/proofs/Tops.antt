@@ -16,8 +16,8 @@ unfolding tab
 first f zero h = absurd (h refl)
 first f (suc n) h = refl
 
-pub top-none : (xs : List ℕ) (a : ℕ) → get_or xs a 0 ≡ 0 → top_of (held_in (side_at xs a)) ≡ Top.Empty
-top-none xs a h = ap (λ (n : ℕ). top_of (take n (tab (λ (i : ℕ). entry_at xs (a + 1 + i * 5)) 20))) h
+pub top_none : (xs : List ℕ) (a : ℕ) → get_or xs a 0 ≡ 0 → top_of (held_in (side_at xs a)) ≡ Top.Empty
+top_none xs a h = ap (λ (n : ℕ). top_of (take n (tab (λ (i : ℕ). entry_at xs (a + 1 + i * 5)) 20))) h
 
-pub top-some : (xs : List ℕ) (a : ℕ) → (get_or xs a 0 ≡ 0 → ⊥) → top_of (held_in (side_at xs a)) ≡ Top.Held (entry_at xs (a + 1))
-top-some xs a h = first (λ (i : ℕ). entry_at xs (a + 1 + i * 5)) (get_or xs a 0) h ∙ ap (λ (k : ℕ). Top.Held (entry_at xs k)) (add-zero (a + 1))
+pub top_some : (xs : List ℕ) (a : ℕ) → (get_or xs a 0 ≡ 0 → ⊥) → top_of (held_in (side_at xs a)) ≡ Top.Held (entry_at xs (a + 1))
+top_some xs a h = first (λ (i : ℕ). entry_at xs (a + 1 + i * 5)) (get_or xs a 0) h ∙ ap (λ (k : ℕ). Top.Held (entry_at xs k)) (add-zero (a + 1))

@@ -13,10 +13,10 @@ use Rattle.loops.specs.Channel.{channel, Reply}
 use Rattle.store.specs.Layout.{store_size, heading_size}
 use Rattle.store.specs.Meaning.{State, heading_of, board_in, channel_at, saved, with_loop, written}
 use Rattle.store.specs.Canon.{Canon}
-use Rattle.store.proofs.Decode.{insts-length, queue-length}
-use Rattle.store.proofs.States.{state-by}
-use Rattle.store.proofs.Saved.{saved-agree, saved-heading, saved-board, saved-canon, loop-agree, loop-saved, loop-heading, loop-board, loop-formed}
-use Rattle.sound.proofs.Back.{Holds, heading-back}
+use Rattle.store.proofs.Decode.{insts_length, queue_length}
+use Rattle.store.proofs.States.{state_by}
+use Rattle.store.proofs.Saved.{saved_agree, saved_heading, saved_board, saved_canon, loop_agree, loop_saved, loop_heading, loop_board, loop_formed}
+use Rattle.sound.proofs.Back.{Holds, heading_back}
 use Rattle.sound.proofs.Whole.{whole}
 use Rattle.channel.specs.Feeds.{Around}
 use Rattle.rounds.specs.Laws.{GivesOnce}
@@ -30,25 +30,25 @@ module _ (t : State) (k : Canon t) where
 
   holds : Holds ys (channel (board_in t) no_loop)
   holds =
-      let b = loop-board no_loop (saved t) ∙ saved-board t k.formed.long in
-      let r = loop-saved no_loop (saved t) (saved-canon t k).formed.long in
+      let b = loop_board no_loop (saved t) ∙ saved_board t k.formed.long in
+      let r = loop_saved no_loop (saved t) (saved_canon t k).formed.long in
       let e : channel_at ys ≡ channel (board_in t) no_loop = rw (b, r) in
-      subst (Holds ys) e (whole ys (loop-formed no_loop (saved t) (saved-canon t k).formed))
+      subst (Holds ys) e (whole ys (loop_formed no_loop (saved t) (saved_canon t k).formed))
 
-  head-is : t.head ≡ heading_of (board_in t)
-  head-is =
-      sym (saved-heading t k.formed.long) ∙ sym (loop-heading no_loop (saved t))
-      ∙ heading-back ys (channel (board_in t) no_loop) holds (rw (insts-length t) k.formed.few) (rw (queue-length t) k.formed.room)
+  head_is : t.head ≡ heading_of (board_in t)
+  head_is =
+      sym (saved_heading t k.formed.long) ∙ sym (loop_heading no_loop (saved t))
+      ∙ heading_back ys (channel (board_in t) no_loop) holds (rw (insts_length t) k.formed.few) (rw (queue_length t) k.formed.room)
 
   number_is : (j : ℕ) → heading_size ≤ j → j < store_size → get_or t.store j 0 ≡ get_or (written (channel (board_in t) no_loop)) j 0
   number_is j h l =
-      sym ((saved-agree t).outside j (inr (omega arith))) ∙ sym ((loop-agree no_loop (saved t)).outside j (inr (omega arith))) ∙ holds j l
+      sym ((saved_agree t).outside j (inr (omega arith))) ∙ sym ((loop_agree no_loop (saved t)).outside j (inr (omega arith))) ∙ holds j l
 
 -- ---- two that are left of one
 
 module _ (s t u : State) (k : Canon t) (l : Canon u) (v : Around s t) (w : Around s u) (e : board_in t ≡ board_in u) where
-  in-front : (j : ℕ) → j < heading_size → get_or t.store j 0 ≡ get_or u.store j 0
-  in-front j h =
+  in_front : (j : ℕ) → j < heading_size → get_or t.store j 0 ≡ get_or u.store j 0
+  in_front j h =
       sym (get_or-take heading_size t.store j 0 h) ∙ ap (λ (xs : List ℕ). get_or xs j 0) (v.front ∙ sym w.front) ∙ get_or-take heading_size u.store j 0 h
 
   between : (j : ℕ) → heading_size ≤ j → j < store_size → get_or t.store j 0 ≡ get_or u.store j 0
@@ -69,15 +69,15 @@ module _ (s t u : State) (k : Canon t) (l : Canon u) (v : Around s t) (w : Aroun
   same_store : t.store ≡ u.store
   same_store =
       ext_get_or 0 t.store u.store as_long (λ j _.
-      below_or j heading_size (in-front j) (λ h. below_or j store_size (between j h) (behind j)))
+      below_or j heading_size (in_front j) (λ h. below_or j store_size (between j h) (behind j)))
 
-  same-state : t ≡ u
-  same-state = state-by (head-is t k ∙ ap heading_of e ∙ sym (head-is u l)) same_store
+  same_state : t ≡ u
+  same_state = state_by (head_is t k ∙ ap heading_of e ∙ sym (head_is u l)) same_store
 
-pub gives-once : GivesOnce
-gives-once m l s a b row other t u g f =
+pub gives_once : GivesOnce
+gives_once m l s a b row other t u g f =
     let q = g.means ∙ sym f.means in (
       ap (λ (r : Reply). r.answer) q,
       ap (λ (r : Reply). r.channel.loop) q,
-      same-state s t u g.canon f.canon g.around f.around (ap (λ (r : Reply). r.channel.board) q),
+      same_state s t u g.canon f.canon g.around f.around (ap (λ (r : Reply). r.channel.board) q),
     )

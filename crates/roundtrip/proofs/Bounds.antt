@@ -30,18 +30,18 @@ short = record { sender = 65 ∷ []; target = 66 ∷ []; k = 1; m = 1; time = 0 
 nothing : SoundSide 0 []
 nothing = record { room = omega arith; entries = tt }
 
-pub short-in : InRange 0 short 1 0 empty
+pub short_in : InRange 0 short 1 0 empty
 unfolding is_id
-short-in =
+short_in =
     record {
       sender = refl;
       target = refl;
-      k-low = omega arith;
-      k-high = omega arith;
-      m-high = omega arith;
+      k_low = omega arith;
+      k_high = omega arith;
+      m_high = omega arith;
       time = omega arith;
-      id-low = omega arith;
-      id-high = omega arith;
+      id_low = omega arith;
+      id_high = omega arith;
       last = omega arith;
       bids = nothing;
       offers = nothing;
@@ -65,25 +65,25 @@ alike : (n : ℕ) (e : Entry) → entry_fine 0 e ≡ true → All (λ e. entry_f
 alike zero e h = tt
 alike (suc n) e h = (h, alike n e h)
 
-wide-fine : entry_fine 0 wide ≡ true
+wide_fine : entry_fine 0 wide ≡ true
 unfolding entry_fine
-wide-fine = refl
+wide_fine = refl
 
 twenty : SoundSide 0 (replicate 20 wide)
-twenty = record { room = omega arith; entries = alike 20 wide wide-fine }
+twenty = record { room = omega arith; entries = alike 20 wide wide_fine }
 
-pub long-in : InRange 0 long most_id most_number full
+pub long_in : InRange 0 long most_id most_number full
 unfolding is_id
-long-in =
+long_in =
     record {
       sender = refl;
       target = refl;
-      k-low = omega arith;
-      k-high = omega arith;
-      m-high = omega arith;
+      k_low = omega arith;
+      k_high = omega arith;
+      m_high = omega arith;
       time = omega arith;
-      id-low = omega arith;
-      id-high = omega arith;
+      id_low = omega arith;
+      id_high = omega arith;
       last = omega arith;
       bids = twenty;
       offers = twenty;
@@ -93,9 +93,9 @@ pub most : length (snapshot_bytes 0 long most_id most_number full) ≡ most_byte
 unfolding snapshot_bytes snapshot_fields side_fields framed bytes_of field_bytes decimal width_of width_to fixed price_text amount_text fraction_text decimals id_text word_text moment_text date_text time_text clock_text
 most = refl
 
-pub both-reached : BothReached
-both-reached =
+pub both_reached : BothReached
+both_reached =
     record {
-      least = record { depth = 0; letter = short; who = 1; last = 0; book = empty; fine = short-in; bytes = least };
-      most = record { depth = 0; letter = long; who = most_id; last = most_number; book = full; fine = long-in; bytes = most };
+      least = record { depth = 0; letter = short; who = 1; last = 0; book = empty; fine = short_in; bytes = least };
+      most = record { depth = 0; letter = long; who = most_id; last = most_number; book = full; fine = long_in; bytes = most };
     }

@@ -7,12 +7,12 @@ use native.Mathlib.Omega.{arith}
 use lib.Dec.{leb, eqb}
 use Rattle.digits.specs.Digits.{ranged_of}
 use Rattle.digits.specs.declared.Number.TheVariants.{Is}
-use Rattle.digits.proofs.Ranges.{ranged-back}
+use Rattle.digits.proofs.Ranges.{ranged_back}
 use Rattle.text.specs.Text.{decimal}
 use Rattle.text.proofs.Written.{whole_back}
-use Rattle.price.proofs.Back.{price-back}
+use Rattle.price.proofs.Back.{price_back}
 use Rattle.moment.specs.Moments.{day_part, time_part}
-use Rattle.moment.proofs.Back.{date-back, time-back}
+use Rattle.moment.proofs.Back.{date_back, time_back}
 use Rattle.orderid.proofs.Back.{read_back}
 use Rattle.chain.specs.Fields.{Field}
 use Rattle.book.specs.declared.Entry.{Entry}
@@ -24,12 +24,12 @@ use Rattle.line.specs.Entries.{entry_fields}
 use Rattle.roundtrip.proofs.Fine.{Fine, By}
 
 -- a number in its range, in its shortest form
-pub number-back : (w lo hi n : ℕ) → 1 ≤ w → w ≤ 18 → n < 10 ^ w → lo ≤ n → n ≤ hi → ranged_of w lo hi (decimal n) ≡ Is n
-number-back w lo hi n p q r l h = ranged-back w lo hi (decimal n) (whole_back w n p q r) l h
+pub number_back : (w lo hi n : ℕ) → 1 ≤ w → w ≤ 18 → n < 10 ^ w → lo ≤ n → n ≤ hi → ranged_of w lo hi (decimal n) ≡ Is n
+number_back w lo hi n p q r l h = ranged_back w lo hi (decimal n) (whole_back w n p q r) l h
 
 -- a moment from its day and its time of day
-both-parts : (m : ℕ) → m / 87840000 * 87840000 + m % 87840000 ≡ m
-both-parts m = omega arith
+both_parts : (m : ℕ) → m / 87840000 * 87840000 + m % 87840000 ≡ m
+both_parts m = omega arith
 
 -- what an entry says: a new one at its place
 abbrev pub new_at : ℕ → ℕ → ℕ → Entry → Update
@@ -42,49 +42,49 @@ no_more who side place e q =
 
 module _ (depth who place : ℕ) (e : Entry) (low : 1 ≤ place) (high : place ≤ 65535) (f : Fine depth e) where
   -- by 269's byte, 48 or 49
-  entry-by : (side : ℕ) → leb side 1 ≡ true → (t : Bool) → eqb depth 0 ≡ t → By t e.by e.more
+  entry_by : (side : ℕ) → leb side 1 ≡ true → (t : Bool) → eqb depth 0 ≡ t → By t e.by e.more
       → shown_entry depth who side (lookup (entry_fields depth (48 + side) place e)) ≡ says (new_at who side place e)
   unfolding shown_entry values_of by_of moment_in lookup
-  entry-by side s true q h =
+  entry_by side s true q h =
       rw (
         q,
-        number-back 5 1 65535 place (omega arith) (omega arith) (omega arith) low high,
-        price-back e.price f.price,
-        number-back 12 1 999999999999 e.size (omega arith) (omega arith) (omega (arith, f.size-high)) f.size_low f.size-high,
+        number_back 5 1 65535 place (omega arith) (omega arith) (omega arith) low high,
+        price_back e.price f.price,
+        number_back 12 1 999999999999 e.size (omega arith) (omega arith) (omega (arith, f.size_high)) f.size_low f.size_high,
         read_back e.by e.more h,
-        date-back (day_part e.moment) (omega (arith, f.moment)),
-        time-back (time_part e.moment) (omega arith),
-        both-parts e.moment,
+        date_back (day_part e.moment) (omega (arith, f.moment)),
+        time_back (time_part e.moment) (omega arith),
+        both_parts e.moment,
       )
-  entry-by side s false q h =
+  entry_by side s false q h =
       rw (
         q,
-        number-back 5 1 65535 place (omega arith) (omega arith) (omega arith) low high,
-        price-back e.price f.price,
-        number-back 12 1 999999999999 e.size (omega arith) (omega arith) (omega (arith, f.size-high)) f.size_low f.size-high,
-        number-back 5 1 65535 e.by (omega arith) (omega arith) (omega (arith, h.high)) h.low h.high,
-        date-back (day_part e.moment) (omega (arith, f.moment)),
-        time-back (time_part e.moment) (omega arith),
-        both-parts e.moment,
+        number_back 5 1 65535 place (omega arith) (omega arith) (omega arith) low high,
+        price_back e.price f.price,
+        number_back 12 1 999999999999 e.size (omega arith) (omega arith) (omega (arith, f.size_high)) f.size_low f.size_high,
+        number_back 5 1 65535 e.by (omega arith) (omega arith) (omega (arith, h.high)) h.low h.high,
+        date_back (day_part e.moment) (omega (arith, f.moment)),
+        time_back (time_part e.moment) (omega arith),
+        both_parts e.moment,
       ) (no_more who side place e h.none)
 
-  pub bid-back : entry_in_w depth who (lookup (entry_fields depth 48 place e)) ≡ says (new_at who 0 place e)
+  pub bid_back : entry_in_w depth who (lookup (entry_fields depth 48 place e)) ≡ says (new_at who 0 place e)
   unfolding entry_in_w shown_entry sort_of lookup
-  bid-back = entry-by 0 refl (eqb depth 0) refl f.by
+  bid_back = entry_by 0 refl (eqb depth 0) refl f.by
 
-  pub offer-back : entry_in_w depth who (lookup (entry_fields depth 49 place e)) ≡ says (new_at who 1 place e)
+  pub offer_back : entry_in_w depth who (lookup (entry_fields depth 49 place e)) ≡ says (new_at who 1 place e)
   unfolding entry_in_w shown_entry sort_of lookup
-  offer-back = entry-by 1 refl (eqb depth 0) refl f.by
+  offer_back = entry_by 1 refl (eqb depth 0) refl f.by
 
 -- ---- where its tags stand
 module _ (depth sort place : ℕ) (e : Entry) where
-  entry-tidy : (t : Bool) → eqb depth 0 ≡ t → tidy named_tags entry_w (entry_fields depth sort place e) ≡ true
+  entry_tidy : (t : Bool) → eqb depth 0 ≡ t → tidy named_tags entry_w (entry_fields depth sort place e) ≡ true
   unfolding tidy has stands
-  entry-tidy true q = rw q
-  entry-tidy false q = rw q
+  entry_tidy true q = rw q
+  entry_tidy false q = rw q
 
-  pub is-tidy : tidy named_tags entry_w (entry_fields depth sort place e) ≡ true
-  is-tidy = entry-tidy (eqb depth 0) refl
+  pub is_tidy : tidy named_tags entry_w (entry_fields depth sort place e) ≡ true
+  is_tidy = entry_tidy (eqb depth 0) refl
 
   -- it is one part of the group, where another entry or nothing follows
   part_by : (r : List Field) → up_to 269 r ≡ [] → (t : Bool) → eqb depth 0 ≡ t
@@ -93,9 +93,9 @@ module _ (depth sort place : ℕ) (e : Entry) where
   part_by r h true q = rw (q, h)
   part_by r h false q = rw (q, h)
 
-  pub one-part : (r : List Field) → up_to 269 r ≡ [] → parts 269 (entry_fields depth sort place e ++ r) ≡ entry_fields depth sort place e ∷ parts 269 r
-  one-part r h = part_by r h (eqb depth 0) refl
+  pub one_part : (r : List Field) → up_to 269 r ≡ [] → parts 269 (entry_fields depth sort place e ++ r) ≡ entry_fields depth sort place e ∷ parts 269 r
+  one_part r h = part_by r h (eqb depth 0) refl
 
-  pub begins-part : (r : List Field) → up_to 269 (entry_fields depth sort place e ++ r) ≡ []
+  pub begins_part : (r : List Field) → up_to 269 (entry_fields depth sort place e ++ r) ≡ []
   unfolding up_to
-  begins-part r = refl
+  begins_part r = refl

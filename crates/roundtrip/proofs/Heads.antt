@@ -9,7 +9,7 @@ use borrow.Author.Tests.{eq-eqb}
 use lib.ListN.{length}
 use Rattle.text.specs.Text.{decimal}
 use Rattle.moment.specs.Moments.{moment_text}
-use Rattle.moment.proofs.Back.{moment-back}
+use Rattle.moment.proofs.Back.{moment_back}
 use Rattle.chain.specs.Fields.{Field, field}
 use Rattle.book.specs.Rules.{Lists}
 use Rattle.message.specs.Message.{Head, most_number}
@@ -19,8 +19,8 @@ use Rattle.group.specs.Groups.{group_of}
 use Rattle.lead.specs.Messages.{head_of}
 use Rattle.snapshot.specs.Snapshot.{Letter}
 use Rattle.roundtrip.specs.ReadBack.{InRange}
-use Rattle.roundtrip.proofs.Entries.{number-back}
-use Rattle.roundtrip.proofs.Groups.{group, entries, group-parts, group-begins, group-count, group-tidy}
+use Rattle.roundtrip.proofs.Entries.{number_back}
+use Rattle.roundtrip.proofs.Groups.{group, entries, group_parts, group_begins, group_count, group_tidy}
 use Rattle.book.specs.Ids.{most_id}
 
 -- the fields from 49 to 268
@@ -45,40 +45,40 @@ module _ (depth : ℕ) (l : Letter) (who H : ℕ) (b : Lists) (r : InRange depth
   abbrev pub body : List Field
   body = after_type l who H (length b.bids + length b.offers) ++ group depth who b
 
-  pub head-tidy : tidy named_tags head_w (up_to 268 body) ≡ true
+  pub head_tidy : tidy named_tags head_w (up_to 268 body) ≡ true
   unfolding tidy has stands up_to
-  head-tidy = refl
+  head_tidy = refl
 
-  pub head-back : head_of (lookup (up_to 268 body)) ≡ some (head_said l who H)
+  pub head_back : head_of (lookup (up_to 268 body)) ≡ some (head_said l who H)
   unfolding head_of instrument_of bvmf lookup up_to
-  head-back =
+  head_back =
       rw (
-        number-back 10 1 most_number l.k (omega arith) (omega arith) (omega (arith, r.k-high, r.m-high)) r.k-low (omega (arith, r.k-high, r.m-high)),
-        moment-back l.time r.time,
-        number-back 18 1 most_id who (omega arith) (omega arith) (omega (arith, r.id-high)) r.id-low r.id-high,
-        number-back 10 0 most_number H (omega arith) (omega arith) (omega (arith, r.last)) (omega arith) r.last,
-        number-back 10 1 most_number l.m (omega arith) (omega arith) (omega (arith, r.m-high)) (omega (arith, r.k-low, r.k-high)) (omega (arith, r.m-high)),
+        number_back 10 1 most_number l.k (omega arith) (omega arith) (omega (arith, r.k_high, r.m_high)) r.k_low (omega (arith, r.k_high, r.m_high)),
+        moment_back l.time r.time,
+        number_back 18 1 most_id who (omega arith) (omega arith) (omega (arith, r.id_high)) r.id_low r.id_high,
+        number_back 10 0 most_number H (omega arith) (omega arith) (omega (arith, r.last)) (omega arith) r.last,
+        number_back 10 1 most_number l.m (omega arith) (omega arith) (omega (arith, r.m_high)) (omega (arith, r.k_low, r.k_high)) (omega (arith, r.m_high)),
       )
 
-  group-past : past 268 body ≡ group depth who b
+  group_past : past 268 body ≡ group depth who b
   unfolding past
-  group-past = refl
+  group_past = refl
 
-  count-read : lookup body 268 ≡ decimal (length b.bids + length b.offers)
+  count_read_lem : lookup body 268 ≡ decimal (length b.bids + length b.offers)
   unfolding lookup
-  count-read = refl
+  count_read_lem = refl
 
-  pub group-back : group_of 269 entry_w body ≡ some (entries depth who b)
+  pub group_back : group_of 269 entry_w body ≡ some (entries depth who b)
   unfolding group_of tidy
-  group-back =
+  group_back =
       let n = length b.bids + length b.offers in
       rw (
-        count-read,
-        number-back 2 0 64 n (omega arith) (omega arith) (omega (arith, r.bids.room, r.offers.room)) (omega arith) (omega (arith, r.bids.room, r.offers.room)),
-        group-past,
-        group-parts depth who b,
-        group-begins depth who b,
-        group-count depth who b,
+        count_read_lem,
+        number_back 2 0 64 n (omega arith) (omega arith) (omega (arith, r.bids.room, r.offers.room)) (omega arith) (omega (arith, r.bids.room, r.offers.room)),
+        group_past,
+        group_parts depth who b,
+        group_begins depth who b,
+        group_count depth who b,
         eq-eqb n n refl,
-        group-tidy depth who b,
+        group_tidy depth who b,
       )

@@ -10,8 +10,8 @@ use Rattle.board.specs.Board.{Board, Inst, Out, out, any_waiting, look, at, put,
 use Rattle.board.specs.Snapshot.{run, live, take, snap}
 use Rattle.board.specs.Feed.{feed}
 use Rattle.board.specs.Calls.{inst}
-use Rattle.board.proofs.Giving.{at-put-same}
-use Rattle.board.proofs.Staying.{same-feed, same-look}
+use Rattle.board.proofs.Giving.{at_put_same}
+use Rattle.board.proofs.Staying.{same_feed, same_look}
 use Rattle.fields.specs.Messages.{message_in}
 use Rattle.snapshot.specs.Snapshot.{Letter, snapshot_bytes}
 use Rattle.roundtrip.specs.ReadBack.{InRange}
@@ -46,19 +46,19 @@ module _ (depth : ℕ) (l : Letter) (who H : ℕ) (b : Lists) (r : InRange depth
       ∙ rw (
         lt-ltb i (length c.insts) w.followed,
         w.waits,
-        le-ltb H c.B w.from-base,
+        le-ltb H c.B w.from_base,
         le-ltb c.H H w.to_last,
         le-ltb most_places (length b.bids) r.bids.room,
         le-ltb most_places (length b.offers) r.offers.room,
-        w.none-queued,
+        w.none_queued,
       )
 
   is_live : inst who (feed message c).board ≡ live (at i c) b
   is_live =
-      ap (λ (k : ℕ). at k (feed message c).board) (same-look who (feed message c).board c (same-feed message c))
+      ap (λ (k : ℕ). at k (feed message c).board) (same_look who (feed message c).board c (same_feed message c))
       ∙ ap (λ (o : Out). at i o.board) taken
       ∙ settled_at i (put i (live (at i c) b) c)
-      ∙ at-put-same i (live (at i c) b) c w.followed
+      ∙ at_put_same i (live (at i c) b) c w.followed
 
   pub taken_of : Taken who b (feed message c)
   taken_of =

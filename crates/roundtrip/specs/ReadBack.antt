@@ -17,12 +17,12 @@ use Rattle.snapshot.specs.Snapshot.{Letter, snapshot_bytes}
 pub record InRange (depth : ℕ) (l : Letter) (who H : ℕ) (b : Lists) : Type 0 where
   pub sender : is_id l.sender ≡ true
   pub target : is_id l.target ≡ true
-  pub k-low : 1 ≤ l.k
-  pub k-high : l.k ≤ l.m
-  pub m-high : l.m ≤ 16
+  pub k_low : 1 ≤ l.k
+  pub k_high : l.k ≤ l.m
+  pub m_high : l.m ≤ 16
   pub time : l.time < moments
-  pub id-low : 1 ≤ who
-  pub id-high : who ≤ most_id
+  pub id_low : 1 ≤ who
+  pub id_high : who ≤ most_id
   pub last : H ≤ most_number
   pub bids : SoundSide depth b.bids
   pub offers : SoundSide depth b.offers

@@ -15,9 +15,9 @@ use Rattle.roundtrip.specs.ReadBack.{InRange}
 pub record Awaits (who H : ℕ) (c : Board) : Type 0 where
   pub followed : look who c.insts < length c.insts
   pub waits : (inst who c).waiting ≡ true
-  pub from-base : c.B ≤ H
+  pub from_base : c.B ≤ H
   pub to_last : H ≤ c.H
-  pub none-queued : after (look who c.insts) H c.queue ≡ []
+  pub none_queued : after (look who c.insts) H c.queue ≡ []
 
 -- It is taken (4), and the instrument is Live with that book.
 pub record Taken (who : ℕ) (b : Lists) (o : Out) : Type 0 where

@@ -10,6 +10,6 @@ use Rattle.stretch.specs.Stretches.{named_of, stretch_of}
 use Rattle.salvage.specs.Pieces.{walk_of, pieces}
 use Rattle.salvage.specs.Cases.{WalkCases}
 
-pub walk-cases : WalkCases
+pub walk_cases : WalkCases
 unfolding pieces walk_of stretch_of named_of field_at frame_of fields_of cut field_of ranged_of whole_of digits_of bytes_of field_bytes decimal width_of width_to fixed
-walk-cases = record { between = refl; spoilt = refl; outer = refl; inner = refl }
+walk_cases = record { between = refl; spoilt = refl; outer = refl; inner = refl }

@@ -12,20 +12,20 @@ use Rattle.stretch.specs.Stretches.{stretch_at}
 use Rattle.stretch.specs.Runs.{run_of, Ends}
 use Rattle.salvage.specs.Pieces.{Piece, message, passed, pieces}
 use Rattle.salvage.specs.Rooms.{fitting, spanned, given, go_on, cells, refused, walk_out, First, Filled}
-use Rattle.salvage.proofs.Stepping.{pieces_end, pieces-message, pieces-run}
-use Rattle.salvage.proofs.Walking.{run-here, run_inside, message-inside}
+use Rattle.salvage.proofs.Stepping.{pieces_end, pieces_message, pieces_run}
+use Rattle.salvage.proofs.Walking.{run_here, run_inside, message_inside}
 
 -- ---- the first piece
 module _ (rec : List ℕ) (p m next : ℕ) (l : p < length rec) (g : m ≡ stretch_at rec p) where
-  pub first-message : (m ≡ 0 → ⊥) → next ≡ stretch_at rec (p + m) → First rec p 1 m next
-  first-message h e =
+  pub first_message : (m ≡ 0 → ⊥) → next ≡ stretch_at rec (p + m) → First rec p 1 m next
+  first_message h e =
       record {
         piece = message p m;
-        comes = pieces-message rec p m (sym g) (omega arith);
+        comes = pieces_message rec p m (sym g) (omega arith);
         cell = refl;
         size = refl;
         some = omega arith;
-        inside = omega (arith, message-inside rec p (omega arith));
+        inside = omega (arith, message_inside rec p (omega arith));
         after = e;
       }
 
@@ -36,27 +36,27 @@ module _ (rec : List ℕ) (p m next : ℕ) (l : p < length rec) (g : m ≡ stret
       let q : p + (e - p) ≡ e = omega (arith, x.here) in
       record {
         piece = passed p (e - p);
-        comes = rw n at (pieces-run rec p z l);
+        comes = rw n at (pieces_run rec p z l);
         cell = refl;
         size = refl;
-        some = omega (arith, run-here rec p l z);
+        some = omega (arith, run_here rec p l z);
         inside = omega (arith, run_inside rec p (omega arith));
         after = rw q x.after;
       }
 
 -- ---- what fits
-fitting-none : (room : ℕ) → fitting room [] ≡ []
+fitting_none : (room : ℕ) → fitting room [] ≡ []
 unfolding fitting
-fitting-none room = refl
+fitting_none room = refl
 
-fitting-full : (room : ℕ) (ps : List Piece) → room < 3 → fitting room ps ≡ []
+fitting_full : (room : ℕ) (ps : List Piece) → room < 3 → fitting room ps ≡ []
 unfolding fitting
-fitting-full room [] h = refl
-fitting-full room (x ∷ ps) h = rw (lt-leb 3 room h)
+fitting_full room [] h = refl
+fitting_full room (x ∷ ps) h = rw (lt-leb 3 room h)
 
-fitting-more : (room : ℕ) (x : Piece) (ps : List Piece) → 3 ≤ room → fitting room (x ∷ ps) ≡ x ∷ fitting (room - 3) ps
+fitting_more : (room : ℕ) (x : Piece) (ps : List Piece) → 3 ≤ room → fitting room (x ∷ ps) ≡ x ∷ fitting (room - 3) ps
 unfolding fitting
-fitting-more room x ps h = rw (le-leb 3 room h)
+fitting_more room x ps h = rw (le-leb 3 room h)
 
 -- ---- a loop's turn
 pub record Going (rec : List ℕ) (from : ℕ) (was is : List ℕ) (i at k : ℕ) : Type 0 where
@@ -81,18 +81,18 @@ module _ (rec : List ℕ) (from : ℕ) (was : List ℕ) where
       many = rw (e, add-zero) at g.many;
     }
 
-    pub going-full : length was - at < 3 → Filled rec from was is i k
-    going-full h = none_left (fitting-full (length was - at) (pieces rec i) h)
+    pub going_full : length was - at < 3 → Filled rec from was is i k
+    going_full h = none_left (fitting_full (length was - at) (pieces rec i) h)
 
     pub going_end : length rec ≤ i → Filled rec from was is i k
-    going_end h = none_left (rw (pieces_end rec i h) (fitting-none (length was - at)))
+    going_end h = none_left (rw (pieces_end rec i h) (fitting_none (length was - at)))
 
     pub going_on : (kind n next : ℕ) (then : List ℕ) → 3 ≤ length was - at → First rec i kind n next → then ≡ sets is at (kind ∷ i ∷ n ∷ [])
         → Going rec from was then (i + n) (at + 3) (k + 1)
     going_on kind n next then h f e =
         let w : length was - at - 3 ≡ length was - (at + 3) = omega arith in
         let r = fitting (length was - (at + 3)) (pieces rec (i + n)) in
-        let q : fitting (length was - at) (pieces rec i) ≡ f.piece ∷ r = rw f.comes (fitting-more (length was - at) f.piece (pieces rec (i + n)) h ∙ rw w) in
+        let q : fitting (length was - at) (pieces rec i) ≡ f.piece ∷ r = rw f.comes (fitting_more (length was - at) f.piece (pieces rec (i + n)) h ∙ rw w) in
         let t : at + 3 ≡ suc (suc (suc at)) = omega arith in
         record {
           inside = f.inside;
@@ -110,10 +110,10 @@ set_before [] l i j a h = refl
 set_before (v ∷ vs) l i j a h =
     set_before vs (set l i v) (suc i) j a (omega arith) ∙ ap (λ (m : List ℕ). sets m (suc i) vs) (set_comm l i j v a (λ z. omega arith))
 
-pub filled-out : (rec : List ℕ) (from : ℕ) (was is : List ℕ) (next count : ℕ) → from ≤ length rec → 5 ≤ length was → Filled rec from was is next count
+pub filled_out : (rec : List ℕ) (from : ℕ) (was is : List ℕ) (next count : ℕ) → from ≤ length rec → 5 ≤ length was → Filled rec from was is next count
     → set (set is 0 next) 1 count ≡ walk_out rec from was
 unfolding walk_out
-filled-out rec from was is next count l h f =
+filled_out rec from was is next count l h f =
     let vs = cells (given rec from (length was)) in
     let r : refused rec from (length was) ≡ false = rw (le-ltb (length rec) from l, le-ltb (length was) 5 h) in
     let a : set is 0 next ≡ sets (set was 0 next) 2 vs = rw f.same (set_before vs was 2 0 next (omega arith)) in

@@ -12,14 +12,14 @@ use Rattle.digits.proofs.Width.{both}
 use Rattle.salvage.specs.Pieces.{Piece, message, passed, length_of, Walk, done, one, run, pieces, is_run, apart}
 use Rattle.salvage.specs.Rooms.{fitting, spanned, given, go_on, reached, link, join, wide}
 use Rattle.salvage.specs.Laws.{WalkGetsOn, EndIsReached, WalksJoined}
-use Rattle.salvage.proofs.Walking.{taken-some, walk_is, walk-only, walk-apart}
+use Rattle.salvage.proofs.Walking.{taken_some, walk_is, walk_only, walk_apart}
 use Rattle.salvage.proofs.Stepping.{pieces_end}
 
 -- what fits comes first
-fitting-front : (room : ℕ) (ps : List Piece) → fitting room ps ++ drop (length (fitting room ps)) ps ≡ ps
+fitting_front : (room : ℕ) (ps : List Piece) → fitting room ps ++ drop (length (fitting room ps)) ps ≡ ps
 unfolding fitting
-fitting-front room [] = refl
-fitting-front room (x ∷ ps) = go (leb 3 room) (fitting-front (room - 3) ps)
+fitting_front room [] = refl
+fitting_front room (x ∷ ps) = go (leb 3 room) (fitting_front (room - 3) ps)
   where
     go : (t : Bool) → fitting (room - 3) ps ++ drop (length (fitting (room - 3) ps)) ps ≡ ps
         → cond t (x ∷ fitting (room - 3) ps) [] ++ drop (length (cond t (x ∷ fitting (room - 3) ps) [])) (x ∷ ps) ≡ x ∷ ps
@@ -53,33 +53,33 @@ module _ (rec : List ℕ) where
   inside (run l h f e w) = let i = inside w in omega arith
 
   module _ (from room : ℕ) (l : from ≤ length rec) where
-    left-walk : Walk rec (go_on rec from room) (drop (length (given rec from room)) (pieces rec from))
+    left_walk : Walk rec (go_on rec from room) (drop (length (given rec from room)) (pieces rec from))
     unfolding given go_on
-    left-walk =
+    left_walk =
         let ps = pieces rec from in
         let gs = fitting (room - 2) ps in
-        after gs (drop (length gs) ps) (rw (fitting-front (room - 2) ps) (walk_is rec from l))
+        after gs (drop (length gs) ps) (rw (fitting_front (room - 2) ps) (walk_is rec from l))
 
     -- it goes on inside the recording
-    goes-on-inside : go_on rec from room ≤ length rec
-    goes-on-inside = inside left-walk
+    goes_on_inside : go_on rec from room ≤ length rec
+    goes_on_inside = inside left_walk
 
     -- one walk, and the walk from where it says
     appended : given rec from room ++ pieces rec (go_on rec from room) ≡ pieces rec from
     unfolding given
-    appended = ap (λ (r : List Piece). given rec from room ++ r) (sym (walk-only rec left-walk)) ∙ fitting-front (room - 2) (pieces rec from)
+    appended = ap (λ (r : List Piece). given rec from room ++ r) (sym (walk_only rec left_walk)) ∙ fitting_front (room - 2) (pieces rec from)
 
     joined : join (given rec from room) (pieces rec (go_on rec from room)) ≡ pieces rec from
-    joined = join_apart (given rec from room) (pieces rec (go_on rec from room)) (rw appended (walk-apart rec (walk_is rec from l))) ∙ appended
+    joined = join_apart (given rec from room) (pieces rec (go_on rec from room)) (rw appended (walk_apart rec (walk_is rec from l))) ∙ appended
 
     -- a walk always gets on
-    gets-on : 5 ≤ room → from < length rec → from < go_on rec from room
+    gets_on : 5 ≤ room → from < length rec → from < go_on rec from room
     unfolding given go_on fitting
-    gets-on r h = go (pieces rec from) (walk_is rec from l)
+    gets_on r h = go (pieces rec from) (walk_is rec from l)
       where
         go : (ps : List Piece) → Walk rec from ps → from < from + spanned (fitting (room - 2) ps)
         go [] (done e) = absurd (omega arith)
-        go (x ∷ ps) (one {n = n} t w) = rw (le-leb 3 (room - 2) (omega arith)) (omega (arith, taken-some (drop from rec) n t))
+        go (x ∷ ps) (one {n = n} t w) = rw (le-leb 3 (room - 2) (omega arith)) (omega (arith, taken_some (drop from rec) n t))
         go (x ∷ ps) (run a i f e w) = rw (le-leb 3 (room - 2) (omega arith)) (omega arith)
 
   -- ---- any number of walks
@@ -88,17 +88,17 @@ module _ (rec : List ℕ) where
   unfolding go_on given fitting
   stays room = rw (pieces_end rec (length rec) (omega arith), add-zero)
 
-  done-stays : (rooms : List ℕ) → reached rec (length rec) rooms ≡ length rec
-  done-stays [] = refl
-  done-stays (room ∷ rooms) = rw (stays room) (done-stays rooms)
+  done_stays : (rooms : List ℕ) → reached rec (length rec) rooms ≡ length rec
+  done_stays [] = refl
+  done_stays (room ∷ rooms) = rw (stays room) (done_stays rooms)
 
-pub walk-gets-on : WalkGetsOn
-walk-gets-on rec from room l = record { inside = goes-on-inside rec from room l; on = gets-on rec from room l }
+pub walk_gets_on : WalkGetsOn
+walk_gets_on rec from room l = record { inside = goes_on_inside rec from room l; on = gets_on rec from room l }
 
-pub end-is-reached : EndIsReached
-end-is-reached rec from [] l w h = omega arith
-end-is-reached rec from (room ∷ rooms) l w h =
-    go (leb (length rec) from) refl (end-is-reached rec (go_on rec from room) rooms (goes-on-inside rec from room l) d.1)
+pub end_is_reached : EndIsReached
+end_is_reached rec from [] l w h = omega arith
+end_is_reached rec from (room ∷ rooms) l w h =
+    go (leb (length rec) from) refl (end_is_reached rec (go_on rec from room) rooms (goes_on_inside rec from room l) d.1)
   where
     d : (leb 5 room ≡ true) × (wide rooms ≡ true)
     d = both (leb 5 room) (wide rooms) w
@@ -108,10 +108,10 @@ end-is-reached rec from (room ∷ rooms) l w h =
         → reached rec (go_on rec from room) rooms ≡ length rec
     go true e i =
         let q : from ≡ length rec = omega (arith, leb-true (length rec) from e) in
-        rw q (done-stays rec (room ∷ rooms))
-    go false e i = i (omega (arith, gets-on rec from room l (leb-true 5 room d.0) (omega (arith, leb-false (length rec) from e))))
+        rw q (done_stays rec (room ∷ rooms))
+    go false e i = i (omega (arith, gets_on rec from room l (leb-true 5 room d.0) (omega (arith, leb-false (length rec) from e))))
 
-pub walks-joined : WalksJoined
-walks-joined rec from [] l e = sym (pieces_end rec from (omega arith))
-walks-joined rec from (room ∷ rooms) l e =
-    ap (join (given rec from room)) (walks-joined rec (go_on rec from room) rooms (goes-on-inside rec from room l) e) ∙ joined rec from room l
+pub walks_joined : WalksJoined
+walks_joined rec from [] l e = sym (pieces_end rec from (omega arith))
+walks_joined rec from (room ∷ rooms) l e =
+    ap (join (given rec from room)) (walks_joined rec (go_on rec from room) rooms (goes_on_inside rec from room l) e) ∙ joined rec from room l

@@ -23,11 +23,11 @@ skip (b ∷ s) zero p = rw add-zero
 skip (b ∷ s) (suc k) p = let q : p + 1 + k ≡ p + suc k = omega arith in skip s k (p + 1) ∙ rw q
 
 -- a message
-pub message-of : (s : List ℕ) (p n : ℕ) → stretch_of s ≡ n → 1 ≤ n → walk_of s 0 p ≡ message p n ∷ walk_of (drop n s) 0 (p + n)
+pub message_of_lem : (s : List ℕ) (p n : ℕ) → stretch_of s ≡ n → 1 ≤ n → walk_of s 0 p ≡ message p n ∷ walk_of (drop n s) 0 (p + n)
 unfolding walk_of
-message-of [] p n e l = absurd (omega (arith, too_short [] (omega arith)))
-message-of (b ∷ s) p zero e l = absurd (omega arith)
-message-of (b ∷ s) p (suc k) e l =
+message_of_lem [] p n e l = absurd (omega (arith, too_short [] (omega arith)))
+message_of_lem (b ∷ s) p zero e l = absurd (omega arith)
+message_of_lem (b ∷ s) p (suc k) e l =
     let q : suc k - 1 ≡ k = omega arith in
     let r : p + 1 + k ≡ p + suc k = omega arith in
     rw (e, ne_eqb (suc k) 0 (λ z. omega arith), q, skip s k (p + 1), r)
@@ -48,10 +48,10 @@ passes_of (b ∷ s) p = go (eqb (stretch_of (b ∷ s)) 0) refl (passes_of s (p +
     go false e i = rw (add-zero, e)
 
 -- a run
-run-of : (s : List ℕ) (p : ℕ) → stretch_of s ≡ 0 → 1 ≤ length s → walk_of s 0 p ≡ passed p (run_of s) ∷ walk_of (drop (run_of s) s) 0 (p + run_of s)
+run_of_lem : (s : List ℕ) (p : ℕ) → stretch_of s ≡ 0 → 1 ≤ length s → walk_of s 0 p ≡ passed p (run_of s) ∷ walk_of (drop (run_of s) s) 0 (p + run_of s)
 unfolding walk_of run_of
-run-of [] p e l = absurd (omega arith)
-run-of (b ∷ s) p e l =
+run_of_lem [] p e l = absurd (omega arith)
+run_of_lem (b ∷ s) p e l =
     let q : p + 1 + run_of s ≡ p + (run_of s + 1) = omega arith in
     rw (e) (passes_of s p ∙ rw q (simp add-one))
 
@@ -60,10 +60,10 @@ module _ (rec : List ℕ) (p : ℕ) where
   unfolding pieces walk_of
   pieces_end l = rw (drop_of_length-le rec {i = p} l)
 
-  pub pieces-message : (n : ℕ) → stretch_at rec p ≡ n → 1 ≤ n → pieces rec p ≡ message p n ∷ pieces rec (p + n)
+  pub pieces_message : (n : ℕ) → stretch_at rec p ≡ n → 1 ≤ n → pieces rec p ≡ message p n ∷ pieces rec (p + n)
   unfolding pieces
-  pieces-message n e l = message-of (drop p rec) p n e l ∙ rw (drop-drop n p rec)
+  pieces_message n e l = message_of_lem (drop p rec) p n e l ∙ rw (drop-drop n p rec)
 
-  pub pieces-run : stretch_at rec p ≡ 0 → p < length rec → pieces rec p ≡ passed p (run_of (drop p rec)) ∷ pieces rec (p + run_of (drop p rec))
+  pub pieces_run : stretch_at rec p ≡ 0 → p < length rec → pieces rec p ≡ passed p (run_of (drop p rec)) ∷ pieces rec (p + run_of (drop p rec))
   unfolding pieces
-  pieces-run e l = run-of (drop p rec) p e (rw length-drop (omega arith)) ∙ rw (drop-drop (run_of (drop p rec)) p rec)
+  pieces_run e l = run_of_lem (drop p rec) p e (rw length-drop (omega arith)) ∙ rw (drop-drop (run_of (drop p rec)) p rec)

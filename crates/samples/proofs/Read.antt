@@ -19,81 +19,81 @@ use Rattle.message.specs.declared.Refusal.TheVariants.{BadFields}
 use Rattle.group.specs.Groups.{group_of, each, running}
 use Rattle.lead.specs.Messages.{changes_of, head_of, snapshot_of, or_bad_fields, typed_as}
 use Rattle.fields.specs.Messages.{message_in}
-use Rattle.samples.specs.Messages.{empty-book, point-alone, too-many-decimals, eight-decimals, first, second, third, at_1, at-2, at-4, one_of_two, two-of-two, fourth, all-empty, all-empty-22, all-empty-207, bid-without-48}
-use Rattle.samples.specs.Says.{bid-1, bid-2, eight-says, first_says, second-says, third-says, shows, one-says, two-says, fourth-says, all-says}
+use Rattle.samples.specs.Messages.{empty_book_lem, point_alone, too_many_decimals, eight_decimals, first, second, third, at_1, at_2, at_4, one_of_two, two_of_two, fourth, all_empty_lem, all_empty_22, all_empty_207, bid_without_48}
+use Rattle.samples.specs.Says.{bid_1, bid_2, eight_says, first_says, second_says, third_says, shows, one_says, two_says, fourth_says, all_says}
 
 -- the message has 110 bytes and says an empty book
-pub sized : length empty-book ≡ 110
+pub sized : length empty_book_lem ≡ 110
 sized = refl
 
-pub says-empty : message_in 0 empty-book ≡ snapshot (record { number = 1; heard = 64968180540000; id = 7; last = 0; loops = 1 }) []
+pub says_empty : message_in 0 empty_book_lem ≡ snapshot (record { number = 1; heard = 64968180540000; id = 7; last = 0; loops = 1 }) []
 unfolding message_in typed_as or_bad_fields snapshot_of head_of group_of each running frame_of body_of fields_of cut field_of ranged_of whole_of digits_of bytes_of field_bytes decimal width_of width_to fixed tidy up_to past parts all_tidy lookup has stands moment_of date_of time_of clock_of minutes_of two_of is_date day_of leap months days_in days_to year_days days_before instrument_of bvmf
-says-empty = refl
+says_empty = refl
 
 -- M4
-pub m4-point : message_in 0 point-alone ≡ refused BadFields
+pub m4_point : message_in 0 point_alone ≡ refused BadFields
 unfolding message_in typed_as or_bad_fields changes_of group_of each frame_of body_of fields_of cut field_of ranged_of whole_of digits_of bytes_of field_bytes decimal width_of width_to fixed tidy up_to past parts all_tidy lookup has stands moment_of date_of time_of clock_of minutes_of two_of is_date day_of leap months days_in days_to year_days days_before instrument_of bvmf entry_in_x book_entry values_of sort_of price_of amount_of fraction_of
-m4-point = refl
+m4_point = refl
 
-pub m4-many : message_in 0 too-many-decimals ≡ refused BadFields
+pub m4_many : message_in 0 too_many_decimals ≡ refused BadFields
 unfolding message_in typed_as or_bad_fields changes_of group_of each frame_of body_of fields_of cut field_of ranged_of whole_of digits_of bytes_of field_bytes decimal width_of width_to fixed tidy up_to past parts all_tidy lookup has stands moment_of date_of time_of clock_of minutes_of two_of is_date day_of leap months days_in days_to year_days days_before instrument_of bvmf entry_in_x book_entry values_of sort_of price_of amount_of fraction_of
-m4-many = refl
+m4_many = refl
 
-pub says-eight : message_in 0 eight-decimals ≡ eight-says
+pub says_eight : message_in 0 eight_decimals ≡ eight_says
 unfolding message_in typed_as or_bad_fields changes_of snapshot_of head_of group_of each running frame_of body_of fields_of cut field_of ranged_of whole_of digits_of bytes_of field_bytes decimal width_of width_to fixed tidy up_to past parts all_tidy lookup has stands moment_of date_of time_of clock_of minutes_of two_of is_date day_of leap months days_in days_to year_days days_before instrument_of bvmf entry_in_x book_entry entry_in_w shown_entry values_of sort_of price_of amount_of fraction_of by_of id_of is_id moment_in
-says-eight = refl
+says_eight = refl
 
 -- ---- M11 and M12
 pub says_first : message_in 0 first ≡ first_says
 unfolding message_in typed_as or_bad_fields changes_of snapshot_of head_of group_of each running frame_of body_of fields_of cut field_of ranged_of whole_of digits_of bytes_of field_bytes decimal width_of width_to fixed tidy up_to past parts all_tidy lookup has stands moment_of date_of time_of clock_of minutes_of two_of is_date day_of leap months days_in days_to year_days days_before instrument_of bvmf entry_in_x book_entry entry_in_w shown_entry values_of sort_of price_of amount_of fraction_of by_of id_of is_id moment_in
 says_first = refl
 
-pub says_second : message_in 0 second ≡ second-says
+pub says_second : message_in 0 second ≡ second_says
 unfolding message_in typed_as or_bad_fields changes_of snapshot_of head_of group_of each running frame_of body_of fields_of cut field_of ranged_of whole_of digits_of bytes_of field_bytes decimal width_of width_to fixed tidy up_to past parts all_tidy lookup has stands moment_of date_of time_of clock_of minutes_of two_of is_date day_of leap months days_in days_to year_days days_before instrument_of bvmf entry_in_x book_entry entry_in_w shown_entry values_of sort_of price_of amount_of fraction_of by_of id_of is_id moment_in
 says_second = refl
 
-pub says-third : message_in 0 third ≡ third-says
+pub says_third : message_in 0 third ≡ third_says
 unfolding message_in typed_as or_bad_fields changes_of snapshot_of head_of group_of each running frame_of body_of fields_of cut field_of ranged_of whole_of digits_of bytes_of field_bytes decimal width_of width_to fixed tidy up_to past parts all_tidy lookup has stands moment_of date_of time_of clock_of minutes_of two_of is_date day_of leap months days_in days_to year_days days_before instrument_of bvmf entry_in_x book_entry entry_in_w shown_entry values_of sort_of price_of amount_of fraction_of by_of id_of is_id moment_in
-says-third = refl
+says_third = refl
 
-pub says-at-1 : message_in 0 at_1 ≡ shows 1 bid-1
+pub says_at_1 : message_in 0 at_1 ≡ shows 1 bid_1
 unfolding message_in typed_as or_bad_fields changes_of snapshot_of head_of group_of each running frame_of body_of fields_of cut field_of ranged_of whole_of digits_of bytes_of field_bytes decimal width_of width_to fixed tidy up_to past parts all_tidy lookup has stands moment_of date_of time_of clock_of minutes_of two_of is_date day_of leap months days_in days_to year_days days_before instrument_of bvmf entry_in_x book_entry entry_in_w shown_entry values_of sort_of price_of amount_of fraction_of by_of id_of is_id moment_in
-says-at-1 = refl
+says_at_1 = refl
 
-pub says-at-4 : message_in 0 at-4 ≡ shows 4 bid-2
+pub says_at_4 : message_in 0 at_4 ≡ shows 4 bid_2
 unfolding message_in typed_as or_bad_fields changes_of snapshot_of head_of group_of each running frame_of body_of fields_of cut field_of ranged_of whole_of digits_of bytes_of field_bytes decimal width_of width_to fixed tidy up_to past parts all_tidy lookup has stands moment_of date_of time_of clock_of minutes_of two_of is_date day_of leap months days_in days_to year_days days_before instrument_of bvmf entry_in_x book_entry entry_in_w shown_entry values_of sort_of price_of amount_of fraction_of by_of id_of is_id moment_in
-says-at-4 = refl
+says_at_4 = refl
 
-pub says-at-2 : message_in 0 at-2 ≡ shows 2 bid-2
+pub says_at_2 : message_in 0 at_2 ≡ shows 2 bid_2
 unfolding message_in typed_as or_bad_fields changes_of snapshot_of head_of group_of each running frame_of body_of fields_of cut field_of ranged_of whole_of digits_of bytes_of field_bytes decimal width_of width_to fixed tidy up_to past parts all_tidy lookup has stands moment_of date_of time_of clock_of minutes_of two_of is_date day_of leap months days_in days_to year_days days_before instrument_of bvmf entry_in_x book_entry entry_in_w shown_entry values_of sort_of price_of amount_of fraction_of by_of id_of is_id moment_in
-says-at-2 = refl
+says_at_2 = refl
 
 -- ---- a loop
-pub says-one-of-two : message_in 0 one_of_two ≡ one-says
+pub says_one_of_two : message_in 0 one_of_two ≡ one_says
 unfolding message_in typed_as or_bad_fields changes_of snapshot_of head_of group_of each running frame_of body_of fields_of cut field_of ranged_of whole_of digits_of bytes_of field_bytes decimal width_of width_to fixed tidy up_to past parts all_tidy lookup has stands moment_of date_of time_of clock_of minutes_of two_of is_date day_of leap months days_in days_to year_days days_before instrument_of bvmf entry_in_x book_entry entry_in_w shown_entry values_of sort_of price_of amount_of fraction_of by_of id_of is_id moment_in
-says-one-of-two = refl
+says_one_of_two = refl
 
-pub says-two-of-two : message_in 0 two-of-two ≡ two-says
+pub says_two_of_two : message_in 0 two_of_two ≡ two_says
 unfolding message_in typed_as or_bad_fields changes_of snapshot_of head_of group_of each running frame_of body_of fields_of cut field_of ranged_of whole_of digits_of bytes_of field_bytes decimal width_of width_to fixed tidy up_to past parts all_tidy lookup has stands moment_of date_of time_of clock_of minutes_of two_of is_date day_of leap months days_in days_to year_days days_before instrument_of bvmf entry_in_x book_entry entry_in_w shown_entry values_of sort_of price_of amount_of fraction_of by_of id_of is_id moment_in
-says-two-of-two = refl
+says_two_of_two = refl
 
-pub says-fourth : message_in 0 fourth ≡ fourth-says
+pub says_fourth : message_in 0 fourth ≡ fourth_says
 unfolding message_in typed_as or_bad_fields changes_of snapshot_of head_of group_of each running frame_of body_of fields_of cut field_of ranged_of whole_of digits_of bytes_of field_bytes decimal width_of width_to fixed tidy up_to past parts all_tidy lookup has stands moment_of date_of time_of clock_of minutes_of two_of is_date day_of leap months days_in days_to year_days days_before instrument_of bvmf entry_in_x book_entry entry_in_w shown_entry values_of sort_of price_of amount_of fraction_of by_of id_of is_id moment_in
-says-fourth = refl
+says_fourth = refl
 
 -- ---- J without 48
-pub says-all-empty : message_in 0 all-empty ≡ all-says
+pub says_all_empty : message_in 0 all_empty_lem ≡ all_says
 unfolding message_in typed_as or_bad_fields changes_of group_of each frame_of body_of fields_of cut field_of ranged_of whole_of digits_of bytes_of field_bytes decimal width_of width_to fixed tidy up_to past parts all_tidy lookup has stands moment_of date_of time_of clock_of minutes_of two_of is_date day_of leap months days_in days_to year_days days_before instrument_of bvmf entry_in_x book_entry empty_book empty_all values_of sort_of price_of amount_of fraction_of
-says-all-empty = refl
+says_all_empty = refl
 
-pub bad-with-22 : message_in 0 all-empty-22 ≡ refused BadFields
+pub bad_with_22 : message_in 0 all_empty_22 ≡ refused BadFields
 unfolding message_in typed_as or_bad_fields changes_of group_of each frame_of body_of fields_of cut field_of ranged_of whole_of digits_of bytes_of field_bytes decimal width_of width_to fixed tidy up_to past parts all_tidy lookup has stands moment_of date_of time_of clock_of minutes_of two_of is_date day_of leap months days_in days_to year_days days_before instrument_of bvmf entry_in_x book_entry empty_book empty_all values_of sort_of price_of amount_of fraction_of
-bad-with-22 = refl
+bad_with_22 = refl
 
-pub bad-with-207 : message_in 0 all-empty-207 ≡ refused BadFields
+pub bad_with_207 : message_in 0 all_empty_207 ≡ refused BadFields
 unfolding message_in typed_as or_bad_fields changes_of group_of each frame_of body_of fields_of cut field_of ranged_of whole_of digits_of bytes_of field_bytes decimal width_of width_to fixed tidy up_to past parts all_tidy lookup has stands moment_of date_of time_of clock_of minutes_of two_of is_date day_of leap months days_in days_to year_days days_before instrument_of bvmf entry_in_x book_entry empty_book empty_all values_of sort_of price_of amount_of fraction_of
-bad-with-207 = refl
+bad_with_207 = refl
 
-pub bad-bid-without-48 : message_in 0 bid-without-48 ≡ refused BadFields
+pub bad_bid_without_48 : message_in 0 bid_without_48 ≡ refused BadFields
 unfolding message_in typed_as or_bad_fields changes_of group_of each frame_of body_of fields_of cut field_of ranged_of whole_of digits_of bytes_of field_bytes decimal width_of width_to fixed tidy up_to past parts all_tidy lookup has stands moment_of date_of time_of clock_of minutes_of two_of is_date day_of leap months days_in days_to year_days days_before instrument_of bvmf entry_in_x book_entry empty_book empty_all values_of sort_of price_of amount_of fraction_of
-bad-bid-without-48 = refl
+bad_bid_without_48 = refl

@@ -14,13 +14,13 @@ unfoldable pub ascends : ℕ → List ℕ → Bool
 ascends last [] = true
 ascends last (d ∷ ds) = ltb last d && ascends d ds
 
-pub ascends-end : (last : ℕ) → ascends last [] ≡ true
+pub ascends_end : (last : ℕ) → ascends last [] ≡ true
 unfolding ascends
-ascends-end last = refl
+ascends_end last = refl
 
-pub ascends-turn : (last d : ℕ) (ds : List ℕ) → last < d → ascends d ds ≡ true → ascends last (d ∷ ds) ≡ true
+pub ascends_turn : (last d : ℕ) (ds : List ℕ) → last < d → ascends d ds ≡ true → ascends last (d ∷ ds) ≡ true
 unfolding ascends
-ascends-turn last d ds h e = rw (lt-ltb last d h, e)
+ascends_turn last d ds h e = rw (lt-ltb last d h, e)
 
 -- none of them is one that isn't above `last`
 above : (last d : ℕ) (es : List ℕ) → d ≤ last → ascends last es ≡ true → among d es ≡ false
@@ -31,9 +31,9 @@ above last d (x ∷ es) h e =
     let l = ltb-true last x p.0 in
     rw (ne_eqb x d (λ q. absurd (omega (arith, q, l, h))), above x d es (omega (arith, l, h)) p.1)
 
-pub ascends-distinct : (last : ℕ) (es : List ℕ) → ascends last es ≡ true → distinct es ≡ true
+pub ascends_distinct : (last : ℕ) (es : List ℕ) → ascends last es ≡ true → distinct es ≡ true
 unfolding ascends distinct
-ascends-distinct last [] e = refl
-ascends-distinct last (x ∷ es) e =
+ascends_distinct last [] e = refl
+ascends_distinct last (x ∷ es) e =
     let p = both (ltb last x) (ascends x es) e in
-    rw (above x x es (omega arith) p.1, ascends-distinct x es p.1)
+    rw (above x x es (omega arith) p.1, ascends_distinct x es p.1)

@@ -10,10 +10,10 @@ use Rattle.sides.proofs.Each.{each_of}
 use Rattle.sweep.specs.Quick.{Sides}
 use Rattle.scan.specs.Scan.{book_scan}
 
-pub books-fine : (most full marks : ℕ) (xs : List ℕ) (n : ℕ) → Sides most full marks xs 0 (2 * n)
+pub books_fine : (most full marks : ℕ) (xs : List ℕ) (n : ℕ) → Sides most full marks xs 0 (2 * n)
     → each (λ (i : ℕ). book_scan (room_of marks i) most full xs (bids_of i)) n ≡ true
 unfolding book_scan
-books-fine most full marks xs n h = each_of (λ (i : ℕ). book_scan (room_of marks i) most full xs (bids_of i)) n go
+books_fine most full marks xs n h = each_of (λ (i : ℕ). book_scan (room_of marks i) most full xs (bids_of i)) n go
   where
     go : (i : ℕ) → i < n → book_scan (room_of marks i) most full xs (bids_of i) ≡ true
     go i l =

@@ -8,10 +8,10 @@ use native.Mathlib.Omega.{arith}
 use lib.Dec.{leb, eqb}
 use lib.ListN.{get_or}
 use borrow.Author.Tests.{leb-true, eqb-true, le-leb, lt-ltb, eq-eqb}
-use Rattle.heading.proofs.Bits.{no-bit}
+use Rattle.heading.proofs.Bits.{no_bit}
 use Rattle.board.specs.Ranges.{most_number, moment_fine}
 use Rattle.board.specs.Sound.{heard_fine}
-use Rattle.board.proofs.Tested.{both, and-true}
+use Rattle.board.proofs.Tested.{both, and_true}
 use Rattle.store.specs.Layout.{layout_number, at_layout, at_depth, at_followed, at_number, at_base, at_heard, at_marks, at_queued}
 use Rattle.scan.specs.Scan.{heading_scan}
 
@@ -44,31 +44,31 @@ module _ (a b c d e f g h i j : Bool) where
       (y.0, y.1, x.1, w.1, v.1, u.1, s.1, r.1, q.1, p.1)
 
 -- the heard moment, in two tests
-heard-tests : (n m : ℕ) → moment_fine m ≡ true → not (eqb n 0) || eqb m 0 ≡ true → heard_fine n m ≡ true
-heard-tests n m p q = go (eqb n 0) q
+heard_tests : (n m : ℕ) → moment_fine m ≡ true → not (eqb n 0) || eqb m 0 ≡ true → heard_fine n m ≡ true
+heard_tests n m p q = go (eqb n 0) q
   where
     go : (t : Bool) → not t || eqb m 0 ≡ true → cond t (eqb m 0) (moment_fine m) ≡ true
     go true q = q
     go false q = p
 
-tests-heard : (n m : ℕ) → heard_fine n m ≡ true → (moment_fine m ≡ true) × (not (eqb n 0) || eqb m 0 ≡ true)
-tests-heard n m h = go (eqb n 0) h
+tests_heard : (n m : ℕ) → heard_fine n m ≡ true → (moment_fine m ≡ true) × (not (eqb n 0) || eqb m 0 ≡ true)
+tests_heard n m h = go (eqb n 0) h
   where
     go : (t : Bool) → cond t (eqb m 0) (moment_fine m) ≡ true → (moment_fine m ≡ true) × (not t || eqb m 0 ≡ true)
     go true h = let z : m ≡ 0 = eqb-true m 0 h in (lt-ltb m 320829012000000 (omega arith), h)
     go false h = (h, refl)
 
 -- where none waits
-rest-tests : (m q b n : ℕ) → not (eqb m 0) || (eqb q 0 && eqb b n) ≡ true → m ≡ 0 → (q ≡ 0) × (b ≡ n)
-rest-tests m q b n e z =
+rest_tests : (m q b n : ℕ) → not (eqb m 0) || (eqb q 0 && eqb b n) ≡ true → m ≡ 0 → (q ≡ 0) × (b ≡ n)
+rest_tests m q b n e z =
     let p = both (eqb q 0) (eqb b n) (rw (eq-eqb m 0 z) at e) in
     (eqb-true q 0 p.0, eqb-true b n p.1)
 
-tests-rest : (m q b n : ℕ) → (m ≡ 0 → (q ≡ 0) × (b ≡ n)) → not (eqb m 0) || (eqb q 0 && eqb b n) ≡ true
-tests-rest m q b n h = go (eqb m 0) refl
+tests_rest : (m q b n : ℕ) → (m ≡ 0 → (q ≡ 0) × (b ≡ n)) → not (eqb m 0) || (eqb q 0 && eqb b n) ≡ true
+tests_rest m q b n h = go (eqb m 0) refl
   where
     go : (t : Bool) → eqb m 0 ≡ t → not t || (eqb q 0 && eqb b n) ≡ true
-    go true e = let p = h (eqb-true m 0 e) in and-true (eq-eqb q 0 p.0) (eq-eqb b n p.1)
+    go true e = let p = h (eqb-true m 0 e) in and_true (eq-eqb q 0 p.0) (eq-eqb b n p.1)
     go false e = refl
 
 module _ (xs : List ℕ) where
@@ -84,10 +84,10 @@ module _ (xs : List ℕ) where
         few = leb-true n 16 p.0;
         last = leb-true h most_number q.3;
         base = leb-true b h q.4;
-        heard = heard-tests h heard q.5 q.6;
-        marks = no-bit m n (eqb-true (m / 2 ^ n) 0 q.7);
+        heard = heard_tests h heard q.5 q.6;
+        marks = no_bit m n (eqb-true (m / 2 ^ n) 0 q.7);
         room = leb-true k 256 q.8;
-        rest = rest-tests m k b h q.9;
+        rest = rest_tests m k b h q.9;
       }
     where
       n : ℕ
@@ -113,12 +113,12 @@ module _ (xs : List ℕ) where
           eqb (get_or xs at_layout 0) layout_number && leb (get_or xs at_depth 0) 1 && leb 1 n && leb h most_number && leb b h && moment_fine heard
           && (not (eqb h 0) || eqb heard 0) && eqb (m / 2 ^ n) 0 && leb k 256 && (not (eqb m 0) || (eqb k 0 && eqb b h))
 
-  pub heading-of : Headed xs → heading_scan xs ≡ true
+  pub heading_of_lem : Headed xs → heading_scan xs ≡ true
   unfolding heading_scan
-  heading-of r =
-      let t = tests-heard (get_or xs at_number 0) (get_or xs at_heard 0) r.heard in
-      and-true (le-leb _ _ r.few)
-      (and-true (and-true (and-true (and-true (and-true (and-true (and-true (and-true (and-true
+  heading_of_lem r =
+      let t = tests_heard (get_or xs at_number 0) (get_or xs at_heard 0) r.heard in
+      and_true (le-leb _ _ r.few)
+      (and_true (and_true (and_true (and_true (and_true (and_true (and_true (and_true (and_true
       (eq-eqb _ _ r.layout) (le-leb _ _ r.kind)) (le-leb _ _ r.some)) (le-leb _ _ r.last)) (le-leb _ _ r.base))
       t.0) t.1) (eq-eqb _ _ (div-eq_of_lt r.marks))) (le-leb _ _ r.room))
-      (tests-rest (get_or xs at_marks 0) (get_or xs at_queued 0) (get_or xs at_base 0) (get_or xs at_number 0) r.rest))
+      (tests_rest (get_or xs at_marks 0) (get_or xs at_queued 0) (get_or xs at_base 0) (get_or xs at_number 0) r.rest))

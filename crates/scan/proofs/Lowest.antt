@@ -7,6 +7,6 @@ use lib.ListN.{get_or}
 use Rattle.store.specs.Layout.{slot_of}
 use Rattle.scan.specs.Scan.{low_of}
 
-pub low-next : (xs : List ℕ) (i : ℕ) → low_of xs (i + 1) ≡ get_or xs (slot_of i) 0
+pub low_next : (xs : List ℕ) (i : ℕ) → low_of xs (i + 1) ≡ get_or xs (slot_of i) 0
 unfolding low_of
-low-next xs i = rw add-one
+low_next xs i = rw add-one

@@ -2,5 +2,5 @@
 use mathlib.Core.Path.{sym, ◌∙◌}
 use Rattle.send.specs.Laws.{WriteSettled}
 
-pub write-settled : WriteSettled
-write-settled id sender target k m time room xs r s ys zs a b = (a.answer ∙ sym b.answer, a.out ∙ sym b.out)
+pub write_settled : WriteSettled
+write_settled id sender target k m time room xs r s ys zs a b = (a.answer ∙ sym b.answer, a.out ∙ sym b.out)

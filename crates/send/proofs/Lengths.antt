@@ -9,15 +9,15 @@ use lib.Dec.{leb, eqb}
 use lib.IntN.{ℤ, pos, negsuc}
 use lib.ListN.{length, length-append}
 use Rattle.text.specs.Text.{fixed, width_to, width_of, decimal}
-use Rattle.text.proofs.Written.{length-fixed, length-decimal}
+use Rattle.text.proofs.Written.{length_fixed, length_decimal}
 use Rattle.price.specs.Price.{most_decimals, unit}
 use Rattle.price.specs.PriceText.{decimals, fraction_text, amount_text, price_text}
 use Rattle.moment.specs.Moments.{day_part, time_part}
-use Rattle.moment.proofs.Texts.{length-date, length-time, length-moment}
+use Rattle.moment.proofs.Texts.{length_date, length_time, length_moment}
 use Rattle.orderid.specs.OrderIds.{word_text, id_text}
 use Rattle.chain.specs.Fields.{Field}
 use Rattle.chain.specs.Bytes.{field_bytes, bytes_of}
-use Rattle.chain.proofs.Inverse.{length-field}
+use Rattle.chain.proofs.Inverse.{length_field}
 use Rattle.book.specs.Rules.{Lists}
 use Rattle.book.specs.declared.Entry.{Entry}
 use Rattle.line.specs.Entries.{by_field, entry_fields}
@@ -26,64 +26,64 @@ use Rattle.writer.proofs.Pages.{long}
 
 -- ---- values
 
-width-most : (k n : ℕ) → width_to k n ≤ suc k
+width_most : (k n : ℕ) → width_to k n ≤ suc k
 unfolding width_to
-width-most zero n = omega arith
-width-most (suc k) n = go (leb (10 ^ suc k) n) (width-most k n)
+width_most zero n = omega arith
+width_most (suc k) n = go (leb (10 ^ suc k) n) (width_most k n)
   where
     go : (t : Bool) → width_to k n ≤ suc k → cond t (suc (suc k)) (width_to k n) ≤ suc (suc k)
     go true h = omega arith
     go false h = omega arith
 
-width-of : (n : ℕ) → width_of n ≤ 18
+width_of_lem : (n : ℕ) → width_of n ≤ 18
 unfolding width_of
-width-of n = width-most 17 n
+width_of_lem n = width_most 17 n
 
-decimal-most : (n : ℕ) → length (decimal n) ≤ 18
-decimal-most n = omega (arith, length-decimal n, width-of n)
+decimal_most : (n : ℕ) → length (decimal n) ≤ 18
+decimal_most n = omega (arith, length_decimal n, width_of_lem n)
 
-decimals-most : (k f : ℕ) → length (decimals k f) ≤ k
+decimals_most : (k f : ℕ) → length (decimals k f) ≤ k
 unfolding decimals
-decimals-most zero f = omega arith
-decimals-most (suc k) f = go (eqb (f % 10) 0) (decimals-most k (f / 10))
+decimals_most zero f = omega arith
+decimals_most (suc k) f = go (eqb (f % 10) 0) (decimals_most k (f / 10))
   where
     go : (t : Bool) → length (decimals k (f / 10)) ≤ k → length (cond t (decimals k (f / 10)) (fixed (suc k) f)) ≤ suc k
     go true h = omega arith
-    go false h = omega (arith, length-fixed (suc k) f)
+    go false h = omega (arith, length_fixed (suc k) f)
 
-fraction-most : (f : ℕ) → length (fraction_text f) ≤ 1 + most_decimals
+fraction_most : (f : ℕ) → length (fraction_text f) ≤ 1 + most_decimals
 unfolding fraction_text
-fraction-most f = go (eqb f 0)
+fraction_most f = go (eqb f 0)
   where
     go : (t : Bool) → length (cond t [] (46 ∷ decimals most_decimals f)) ≤ 1 + most_decimals
     go true = omega arith
-    go false = omega (arith, decimals-most most_decimals f)
+    go false = omega (arith, decimals_most most_decimals f)
 
-amount-most : (m : ℕ) → length (amount_text m) ≤ 19 + most_decimals
+amount_most : (m : ℕ) → length (amount_text m) ≤ 19 + most_decimals
 unfolding amount_text
-amount-most m = omega (arith, length-append (decimal (m / unit)) (fraction_text (m % unit)), decimal-most (m / unit), fraction-most (m % unit))
+amount_most m = omega (arith, length-append (decimal (m / unit)) (fraction_text (m % unit)), decimal_most (m / unit), fraction_most (m % unit))
 
-price-most : (p : ℤ) → length (price_text p) ≤ 20 + most_decimals
+price_most : (p : ℤ) → length (price_text p) ≤ 20 + most_decimals
 unfolding price_text
-price-most (pos n) = omega (arith, amount-most n)
-price-most (negsuc n) = omega (arith, amount-most (suc n))
+price_most (pos n) = omega (arith, amount_most n)
+price_most (negsuc n) = omega (arith, amount_most (suc n))
 
-word-most : (k n : ℕ) → length (word_text k n) ≤ k
+word_most : (k n : ℕ) → length (word_text k n) ≤ k
 unfolding word_text
-word-most zero n = omega arith
-word-most (suc k) n = go (eqb n 0) (word-most k ((n - 1) / 94))
+word_most zero n = omega arith
+word_most (suc k) n = go (eqb n 0) (word_most k ((n - 1) / 94))
   where
     go : (t : Bool) → length (word_text k ((n - 1) / 94)) ≤ k → length (cond t [] (word_text k ((n - 1) / 94) ++ ((33 + (n - 1) % 94) ∷ []))) ≤ suc k
     go true h = omega arith
     go false h = omega (arith, length-append (word_text k ((n - 1) / 94)) ((33 + (n - 1) % 94) ∷ []))
 
-id-most : (a b : ℕ) → length (id_text a b) ≤ 16
+id_most : (a b : ℕ) → length (id_text a b) ≤ 16
 unfolding id_text
-id-most a b = omega (arith, length-append (word_text 8 a) (word_text 8 b), word-most 8 a, word-most 8 b)
+id_most a b = omega (arith, length-append (word_text 8 a) (word_text 8 b), word_most 8 a, word_most 8 b)
 
 by_most : (t : Bool) (e : Entry) → length (by_field t e).text ≤ 18
-by_most true e = omega (arith, id-most e.by e.more)
-by_most false e = decimal-most e.by
+by_most true e = omega (arith, id_most e.by e.more)
+by_most false e = decimal_most e.by
 
 -- ---- fields
 
@@ -92,49 +92,49 @@ abbrev room : List Field → ℕ
 room [] = 0
 room (f ∷ fs) = 20 + length f.text + room fs
 
-room-append : (fs gs : List Field) → room (fs ++ gs) ≡ room fs + room gs
-room-append [] gs = omega arith
-room-append (f ∷ fs) gs = omega (arith, room-append fs gs)
+room_append : (fs gs : List Field) → room (fs ++ gs) ≡ room fs + room gs
+room_append [] gs = omega arith
+room_append (f ∷ fs) gs = omega (arith, room_append fs gs)
 
 bytes_most : (fs : List Field) → length (bytes_of fs) ≤ room fs
 unfolding bytes_of
 bytes_most [] = omega arith
-bytes_most (f ∷ fs) = omega (arith, length-append (field_bytes f) (bytes_of fs), length-field f, decimal-most f.tag, bytes_most fs)
+bytes_most (f ∷ fs) = omega (arith, length-append (field_bytes f) (bytes_of fs), length_field f, decimal_most f.tag, bytes_most fs)
 
-entry-most : (depth sort place : ℕ) (e : Entry) → room (entry_fields depth sort place e) ≤ 250
-entry-most depth sort place e =
+entry_most : (depth sort place : ℕ) (e : Entry) → room (entry_fields depth sort place e) ≤ 250
+entry_most depth sort place e =
     omega (
       arith,
-      price-most e.price,
-      decimal-most e.size,
+      price_most e.price,
+      decimal_most e.size,
       by_most (eqb depth 0) e,
-      length-date (day_part e.moment),
-      length-time (time_part e.moment),
-      decimal-most place,
+      length_date (day_part e.moment),
+      length_time (time_part e.moment),
+      decimal_most place,
     )
 
-side-most : (depth sort place : ℕ) (es : List Entry) → room (side_fields depth sort place es) ≤ length es * 250
+side_most : (depth sort place : ℕ) (es : List Entry) → room (side_fields depth sort place es) ≤ length es * 250
 unfolding side_fields
-side-most depth sort place [] = omega arith
-side-most depth sort place (e ∷ es) =
+side_most depth sort place [] = omega arith
+side_most depth sort place (e ∷ es) =
     omega (
       arith,
-      room-append (entry_fields depth sort place e) (side_fields depth sort (place + 1) es),
-      entry-most depth sort place e,
-      side-most depth sort (place + 1) es,
+      room_append (entry_fields depth sort place e) (side_fields depth sort (place + 1) es),
+      entry_most depth sort place e,
+      side_most depth sort (place + 1) es,
       suc-mul (length es) 250,
     )
 
-head-most : (l : Letter) (id H n : ℕ) → length l.sender ≤ 16 → length l.target ≤ 16 → room (head_fields l id H n) ≤ 400
-head-most l id H n s t =
-    omega (arith, decimal-most l.k, length-moment l.time, decimal-most id, decimal-most H, decimal-most l.m, decimal-most n)
+head_most : (l : Letter) (id H n : ℕ) → length l.sender ≤ 16 → length l.target ≤ 16 → room (head_fields l id H n) ≤ 400
+head_most l id H n s t =
+    omega (arith, decimal_most l.k, length_moment l.time, decimal_most id, decimal_most H, decimal_most l.m, decimal_most n)
 
 -- ---- the message
 
-pub snapshot-most : (depth : ℕ) (l : Letter) (id H : ℕ) (b : Lists) → length l.sender ≤ 16 → length l.target ≤ 16 → length b.bids ≤ 20 → length b.offers ≤ 20
+pub snapshot_most : (depth : ℕ) (l : Letter) (id H : ℕ) (b : Lists) → length l.sender ≤ 16 → length l.target ≤ 16 → length b.bids ≤ 20 → length b.offers ≤ 20
     → length (snapshot_bytes depth l id H b) ≤ 12000
 unfolding snapshot_bytes snapshot_fields
-snapshot-most depth l id H b s t p q =
+snapshot_most depth l id H b s t p q =
     let n = length b.bids + length b.offers in
     let bids = side_fields depth 48 1 b.bids in
     let offers = side_fields depth 49 1 b.offers in
@@ -142,11 +142,11 @@ snapshot-most depth l id H b s t p q =
     omega (
       arith,
       long fs (length (bytes_of fs)) refl,
-      width-of (length (bytes_of fs)),
+      width_of_lem (length (bytes_of fs)),
       bytes_most fs,
-      room-append (head_fields l id H n) (bids ++ offers),
-      room-append bids offers,
-      head-most l id H n s t,
-      side-most depth 48 1 b.bids,
-      side-most depth 49 1 b.offers,
+      room_append (head_fields l id H n) (bids ++ offers),
+      room_append bids offers,
+      head_most l id H n s t,
+      side_most depth 48 1 b.bids,
+      side_most depth 49 1 b.offers,
     )

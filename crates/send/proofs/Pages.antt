@@ -16,27 +16,27 @@ use Rattle.book.specs.Canonical.{Kept, held_in, lists_in}
 use Rattle.heading.specs.Marks.{marked}
 use Rattle.board.specs.Board.{Inst, look, at}
 use Rattle.store.specs.Meaning.{State, book_at, inst_at, board_of, board_in, board_at}
-use Rattle.store.proofs.Decode.{insts-length, at-board}
+use Rattle.store.proofs.Decode.{insts_length, at_board}
 use Rattle.sound.specs.Sound.{sound}
 use Rattle.writer.specs.declared.Written.{Written}
 use Rattle.snapshot.specs.Snapshot.{Letter}
 use Rattle.snapshot.specs.Writing.{letter, Ready}
 use Rattle.writer.specs.Writing.{page_of, written_of}
 use Rattle.send.specs.Send.{Page, message, refusal, arguments_fine, page_at, sent_page, page_answer, page_out, send_answer, send_out, Sent}
-use Rattle.send.proofs.Lengths.{snapshot-most}
+use Rattle.send.proofs.Lengths.{snapshot_most}
 
 -- ---- the answer fits
 
-length-held : (t : Side) → Kept t → length (held_in t) ≤ 20
-length-held t k = let f = k.full in let r = k.room in omega (arith, length-take-le t.held t.places (omega arith))
+length_held : (t : Side) → Kept t → length (held_in t) ≤ 20
+length_held t k = let f = k.full in let r = k.room in omega (arith, length-take-le t.held t.places (omega arith))
 
-pub page-most : (depth : ℕ) (l : Letter) (id H : ℕ) (b : Book) → Ready l id H b → length (page_of depth l id H b) ≤ 12000
-page-most depth l id H b r =
-    snapshot-most depth l id H (lists_in b) r.sender r.target (length-held b.bids r.kept.bids) (length-held b.offers r.kept.offers)
+pub page_most : (depth : ℕ) (l : Letter) (id H : ℕ) (b : Book) → Ready l id H b → length (page_of depth l id H b) ≤ 12000
+page_most depth l id H b r =
+    snapshot_most depth l id H (lists_in b) r.sender r.target (length_held b.bids r.kept.bids) (length_held b.offers r.kept.offers)
 
-pub written-most : (msg out : List ℕ) (w : Written) → w ≡ written_of msg out → length msg ≤ 12000 → (w.answer ≤ 25) × (w.bytes ≤ 12000)
+pub written_most : (msg out : List ℕ) (w : Written) → w ≡ written_of msg out → length msg ≤ 12000 → (w.answer ≤ 25) × (w.bytes ≤ 12000)
 unfolding written_of
-written-most msg out w e h = go (leb (length msg) (length out)) e
+written_most msg out w e h = go (leb (length msg) (length out)) e
   where
     go : (t : Bool) → w ≡ cond {A = Written} t (record { answer = 0; bytes = length msg }) (record { answer = 25; bytes = 0 }) → (w.answer ≤ 25) × (w.bytes ≤ 12000)
     go true e = rw e (omega arith, h)
@@ -45,25 +45,25 @@ written-most msg out w e h = go (leb (length msg) (length out)) e
 -- ---- the instrument
 
 module _ (s : State) (i : ℕ) (l : Letter) (id : ℕ) where
-  pub not-followed : s.head.followed ≤ i → page_at i l id (board_in s) ≡ refusal 20
-  not-followed h = let e : leb (length (board_in s).insts) i ≡ true = rw (insts-length s) (le-leb s.head.followed i h) in rw e
+  pub not_followed : s.head.followed ≤ i → page_at i l id (board_in s) ≡ refusal 20
+  not_followed h = let e : leb (length (board_in s).insts) i ≡ true = rw (insts_length s) (le-leb s.head.followed i h) in rw e
 
-  followed-by : i < s.head.followed → leb (length (board_in s).insts) i ≡ false
-  followed-by h = rw (insts-length s) (lt-leb s.head.followed i h)
+  followed_by : i < s.head.followed → leb (length (board_in s).insts) i ≡ false
+  followed_by h = rw (insts_length s) (lt-leb s.head.followed i h)
 
-  waits-at : i < s.head.followed → (at i (board_in s)).waiting ≡ marked s.head.marks i
+  waits_at : i < s.head.followed → (at i (board_in s)).waiting ≡ marked s.head.marks i
   unfolding inst_at
-  waits-at h = ap (λ (x : Inst). x.waiting) (at-board i s h)
+  waits_at h = ap (λ (x : Inst). x.waiting) (at_board i s h)
 
-  pub is-waiting : i < s.head.followed → marked s.head.marks i ≡ true → page_at i l id (board_in s) ≡ refusal 21
-  is-waiting h w = let e : (at i (board_in s)).waiting ≡ true = waits-at h ∙ w in rw (followed-by h, e)
+  pub is_waiting : i < s.head.followed → marked s.head.marks i ≡ true → page_at i l id (board_in s) ≡ refusal 21
+  is_waiting h w = let e : (at i (board_in s)).waiting ≡ true = waits_at h ∙ w in rw (followed_by h, e)
 
   pub is_live : i < s.head.followed → marked s.head.marks i ≡ false
       → page_at i l id (board_in s) ≡ message (page_of s.head.depth l id s.head.number (book_at s.store i))
   unfolding board_of inst_at
   is_live h w =
-      let e : (at i (board_in s)).waiting ≡ false = waits-at h ∙ w in
-      rw (followed-by h, e, at-board i s h)
+      let e : (at i (board_in s)).waiting ≡ false = waits_at h ∙ w in
+      rw (followed_by h, e, at_board i s h)
 
 -- ---- the arguments
 
@@ -79,9 +79,9 @@ module _ (id : ℕ) (sender target : List ℕ) (k m : ℕ) (time xs : List ℕ) 
   unsound s = rw s
 
   module _ (s : sound xs ≡ true) where
-    pub no-time : moment_of time ≡ Number.No → sent_page id sender target k m time xs ≡ refusal 18
+    pub no_time : moment_of time ≡ Number.No → sent_page id sender target k m time xs ≡ refusal 18
     unfolding sent_page
-    no-time e = rw (s, e)
+    no_time e = rw (s, e)
 
     module _ (t : ℕ) (read : moment_of time ≡ Number.Is t) where
       pub bad : arguments_fine id sender target k m ≡ false → sent_page id sender target k m time xs ≡ refusal 18

@@ -8,7 +8,7 @@ use lib.ListN.{length, get_or, length-append, get_or-append}
 use lib.Seq.{get_or-append-add}
 use Rattle.cells.specs.Cells.{zeros}
 use Rattle.cells.proofs.Stores.{below_or}
-use Rattle.cells.proofs.Tables.{length-zeros, get_d-zeros}
+use Rattle.cells.proofs.Tables.{length_zeros, get_d_zeros}
 use Rattle.store.specs.Meaning.{rows}
 
 -- a list behind another of so many, and the first of them
@@ -18,15 +18,15 @@ behind p q n k e = rw e at (get_or-append-add p q k 0)
 pub before : (p q : List ℕ) (n k : ℕ) → length p ≡ n → k < n → get_or (p ++ q) k 0 ≡ get_or p k 0
 before p q n k e h = get_or-append p q 0 k (omega (arith, e))
 
-pub in-zeros : (q : List ℕ) (n k : ℕ) → k < n → get_or (zeros n ++ q) k 0 ≡ 0
-in-zeros q n k h = before (zeros n) q n k (length-zeros n) h ∙ get_d-zeros n k
+pub in_zeros : (q : List ℕ) (n k : ℕ) → k < n → get_or (zeros n ++ q) k 0 ≡ 0
+in_zeros q n k h = before (zeros n) q n k (length_zeros n) h ∙ get_d_zeros n k
 
 module _ {A : Type 0} (f : A → List ℕ) (wide : ℕ) (fits : (x : A) → length (f x) ≡ wide) where
-  pub length-rows : (n : ℕ) (l : List A) → length (rows f wide n l) ≡ n * wide
+  pub length_rows : (n : ℕ) (l : List A) → length (rows f wide n l) ≡ n * wide
   unfolding rows
-  length-rows zero l = sym (zero-mul wide)
-  length-rows (suc n) [] = rw length-append (omega (arith, length-zeros wide, length-rows n [], suc-mul n wide))
-  length-rows (suc n) (x ∷ l) = rw length-append (omega (arith, fits x, length-rows n l, suc-mul n wide))
+  length_rows zero l = sym (zero-mul wide)
+  length_rows (suc n) [] = rw length-append (omega (arith, length_zeros wide, length_rows n [], suc-mul n wide))
+  length_rows (suc n) (x ∷ l) = rw length-append (omega (arith, fits x, length_rows n l, suc-mul n wide))
 
   -- number j of thing i
   pub rows_in : (n : ℕ) (l : List A) (i j : ℕ) (d : A) → i < n → i < length l → j < wide → get_or (rows f wide n l) (i * wide + j) 0 ≡ get_or (f (get_or l i d)) j 0
@@ -43,9 +43,9 @@ module _ {A : Type 0} (f : A → List ℕ) (wide : ℕ) (fits : (x : A) → leng
   unfolding rows
   rows_out zero l k h = refl
   rows_out (suc n) [] k h =
-      below_or k wide (λ q. in-zeros (rows f wide n []) wide k q) (λ q.
+      below_or k wide (λ q. in_zeros (rows f wide n []) wide k q) (λ q.
       let e : wide + (k - wide) ≡ k = omega arith in
-      rw e at (behind (zeros wide) (rows f wide n []) wide (k - wide) (length-zeros wide) ∙ rows_out n [] (k - wide) (omega (arith, zero-mul wide))))
+      rw e at (behind (zeros wide) (rows f wide n []) wide (k - wide) (length_zeros wide) ∙ rows_out n [] (k - wide) (omega (arith, zero-mul wide))))
   rows_out (suc n) (x ∷ l) k h =
       let m : length l * wide + wide ≤ k = omega (arith, suc-mul (length l) wide) in
       let e : wide + (k - wide) ≡ k = omega arith in

@@ -12,17 +12,17 @@ use Rattle.cells.proofs.Stores.{below_or}
 use Rattle.heading.specs.Marks.{marked}
 use Rattle.board.specs.Ranges.{within, id_fine, update_fine}
 use Rattle.board.specs.Sound.{distinct}
-use Rattle.board.proofs.Tested.{both, three, four, and-true, within-true, is_within}
+use Rattle.board.proofs.Tested.{both, three, four, and_true, within_true, is_within}
 use Rattle.loops.specs.Sound.{sound_loop}
 use Rattle.store.specs.Layout.{store_size, at_depth, at_followed, at_number, at_marks, at_queued, heading_used, heading_spare, id_of, reason_of, bids_of, offers_of, slot_of}
 use Rattle.store.specs.Meaning.{loop_at}
 use Rattle.sides.specs.Side.{each, all_zero, side_scan, room_of}
 use Rattle.scan.specs.Scan.{heading_scan, record_scan, spread, records_scan, most_of, full_of, book_scan, books_scan, update_scan, slot_scan, low_of, queue_scan, rest_scan, scan}
-use Rattle.sides.proofs.Each.{each_at, each_of, zero-at, zero_of}
-use Rattle.scan.proofs.Headings.{Headed, headed, heading-of}
+use Rattle.sides.proofs.Each.{each_at, each_of, zero_at, zero_of}
+use Rattle.scan.proofs.Headings.{Headed, headed, heading_of_lem}
 use Rattle.sound.proofs.Zeros.{Zeros}
-use Rattle.sound.proofs.Ranges.{update-test}
-use Rattle.sound.proofs.Sides.{SideFacts, side-facts, facts-side}
+use Rattle.sound.proofs.Ranges.{update_test}
+use Rattle.sound.proofs.Sides.{SideFacts, side_facts, facts_side}
 
 -- ---- a record, a book and a slot
 
@@ -56,9 +56,9 @@ module _ (xs : List ℕ) (i : ℕ) where
   next : id_of i + 1 ≡ reason_of i
   next = omega arith
 
-  record-facts : record_scan xs (id_of i) ≡ true → RecordFacts xs i
+  record_facts : record_scan xs (id_of i) ≡ true → RecordFacts xs i
   unfolding record_scan
-  record-facts e =
+  record_facts e =
       let p = both (id_fine (get_or xs (id_of i) 0) && leb (get_or xs (id_of i + 1) 0) 2) (all_zero xs (id_of i + 2) 6) e in
       let q = both (id_fine (get_or xs (id_of i) 0)) (leb (get_or xs (id_of i + 1) 0) 2) p.0 in
       record {
@@ -66,13 +66,13 @@ module _ (xs : List ℕ) (i : ℕ) where
         reason = rw next at (leb-true (get_or xs (id_of i + 1) 0) 2 q.1);
         spare = λ j l m.
             let o : id_of i + 2 + (j - 2) ≡ 32 + i * 8 + j = omega arith in
-            rw o at (zero-at xs (id_of i + 2) 6 (j - 2) p.1 (omega arith));
+            rw o at (zero_at xs (id_of i + 2) 6 (j - 2) p.1 (omega arith));
       }
 
-  facts-record : RecordFacts xs i → record_scan xs (id_of i) ≡ true
+  facts_record : RecordFacts xs i → record_scan xs (id_of i) ≡ true
   unfolding record_scan
-  facts-record r =
-      and-true (and-true r.id (le-leb (get_or xs (id_of i + 1) 0) 2 (rw next r.reason)))
+  facts_record r =
+      and_true (and_true r.id (le-leb (get_or xs (id_of i + 1) 0) 2 (rw next r.reason)))
       (zero_of xs (id_of i + 2) 6 (λ k l.
       let o : 32 + i * 8 + (2 + k) ≡ id_of i + 2 + k = omega arith in
       rw o at (r.spare (2 + k) (omega arith) (omega arith))))
@@ -80,44 +80,44 @@ module _ (xs : List ℕ) (i : ℕ) where
   behind : bids_of i + 128 ≡ offers_of i
   behind = omega arith
 
-  book-facts : book_scan room (most_of depth) (full_of depth) xs (bids_of i) ≡ true → SideFacts depth room xs (bids_of i) × SideFacts depth room xs (offers_of i)
+  book_facts : book_scan room (most_of depth) (full_of depth) xs (bids_of i) ≡ true → SideFacts depth room xs (bids_of i) × SideFacts depth room xs (offers_of i)
   unfolding book_scan
-  book-facts e =
+  book_facts e =
       let p = both (side_scan room (most_of depth) (full_of depth) xs (bids_of i)) (side_scan room (most_of depth) (full_of depth) xs (bids_of i + 128)) e in (
-        side-facts depth room xs (bids_of i) (room_small (get_or xs at_marks 0) i) p.0,
-        rw behind at (side-facts depth room xs (bids_of i + 128) (room_small (get_or xs at_marks 0) i) p.1),
+        side_facts depth room xs (bids_of i) (room_small (get_or xs at_marks 0) i) p.0,
+        rw behind at (side_facts depth room xs (bids_of i + 128) (room_small (get_or xs at_marks 0) i) p.1),
       )
 
-  facts-book : SideFacts depth room xs (bids_of i) → SideFacts depth room xs (offers_of i) → book_scan room (most_of depth) (full_of depth) xs (bids_of i) ≡ true
+  facts_book : SideFacts depth room xs (bids_of i) → SideFacts depth room xs (offers_of i) → book_scan room (most_of depth) (full_of depth) xs (bids_of i) ≡ true
   unfolding book_scan
-  facts-book s o =
-      and-true (facts-side depth room xs (bids_of i) (room_small (get_or xs at_marks 0) i) s)
-      (facts-side depth room xs (bids_of i + 128) (room_small (get_or xs at_marks 0) i) (rw behind o))
+  facts_book s o =
+      and_true (facts_side depth room xs (bids_of i) (room_small (get_or xs at_marks 0) i) s)
+      (facts_side depth room xs (bids_of i + 128) (room_small (get_or xs at_marks 0) i) (rw behind o))
 
-  update-at : update_scan (most_of depth) (full_of depth) xs (slot_of i + 1) ≡ update_fine depth (update_at xs (slot_of i + 1))
-  update-at = update-test depth xs (slot_of i + 1)
+  update_at_lem : update_scan (most_of depth) (full_of depth) xs (slot_of i + 1) ≡ update_fine depth (update_at xs (slot_of i + 1))
+  update_at_lem = update_test depth xs (slot_of i + 1)
 
-  abbrev slot-test : Bool
-  slot-test = slot_scan (low_of xs i) (get_or xs at_number 0) (get_or xs at_followed 0) (most_of depth) (full_of depth) xs (slot_of i)
+  abbrev slot_test : Bool
+  slot_test = slot_scan (low_of xs i) (get_or xs at_number 0) (get_or xs at_followed 0) (most_of depth) (full_of depth) xs (slot_of i)
 
-  slot-facts : slot-test ≡ true → SlotFacts xs i
+  slot_facts : slot_test ≡ true → SlotFacts xs i
   unfolding slot_scan
-  slot-facts e =
+  slot_facts e =
       let p = four (within (low_of xs i) (get_or xs at_number 0) (get_or xs (slot_of i) 0)) (ltb (get_or xs (slot_of i + 1) 0) (get_or xs at_followed 0)) (update_scan (most_of depth) (full_of depth) xs (slot_of i + 1)) (eqb (get_or xs (slot_of i + 10) 0) 0) e in
-      let q = within-true (low_of xs i) (get_or xs at_number 0) (get_or xs (slot_of i) 0) p.0 in
+      let q = within_true (low_of xs i) (get_or xs at_number 0) (get_or xs (slot_of i) 0) p.0 in
       record {
         low = q.0;
         high = q.1;
         who = ltb-true (get_or xs (slot_of i + 1) 0) (get_or xs at_followed 0) p.1;
-        update = sym update-at ∙ p.2;
+        update = sym update_at_lem ∙ p.2;
         spare = eqb-true (get_or xs (slot_of i + 10) 0) 0 p.3;
       }
 
-  facts-slot : SlotFacts xs i → slot-test ≡ true
+  facts_slot : SlotFacts xs i → slot_test ≡ true
   unfolding slot_scan
-  facts-slot s =
-      and-true (is_within (low_of xs i) (get_or xs at_number 0) (get_or xs (slot_of i) 0) s.low s.high)
-      (and-true (lt-ltb (get_or xs (slot_of i + 1) 0) (get_or xs at_followed 0) s.who) (and-true (update-at ∙ s.update) (eq-eqb (get_or xs (slot_of i + 10) 0) 0 s.spare)))
+  facts_slot s =
+      and_true (is_within (low_of xs i) (get_or xs at_number 0) (get_or xs (slot_of i) 0) s.low s.high)
+      (and_true (lt-ltb (get_or xs (slot_of i + 1) 0) (get_or xs at_followed 0) s.who) (and_true (update_at_lem ∙ s.update) (eq-eqb (get_or xs (slot_of i + 10) 0) 0 s.spare)))
 
 -- ---- the whole
 
@@ -145,20 +145,20 @@ module _ (xs : List ℕ) where
   abbrev full : ℕ
   full = full_of (get_or xs at_depth 0)
 
-  abbrev record-tests : ℕ → Bool
-  record-tests i = record_scan xs (id_of i)
+  abbrev record_tests : ℕ → Bool
+  record_tests i = record_scan xs (id_of i)
 
-  abbrev book-tests : ℕ → Bool
-  book-tests i = book_scan (room_of (get_or xs at_marks 0) i) most full xs (bids_of i)
+  abbrev book_tests : ℕ → Bool
+  book_tests i = book_scan (room_of (get_or xs at_marks 0) i) most full xs (bids_of i)
 
-  abbrev slot-tests : ℕ → Bool
-  slot-tests i = slot_scan (low_of xs i) (get_or xs at_number 0) n most full xs (slot_of i)
+  abbrev slot_tests : ℕ → Bool
+  slot_tests i = slot_scan (low_of xs i) (get_or xs at_number 0) n most full xs (slot_of i)
 
   -- a run of zeros up to an end
   run : (a m k : ℕ) → all_zero xs a m ≡ true → a ≤ k → k < a + m → get_or xs k 0 ≡ 0
   run a m k e h l =
       let o : a + (k - a) ≡ k = omega arith in
-      rw o at (zero-at xs a m (k - a) e (omega arith))
+      rw o at (zero_at xs a m (k - a) e (omega arith))
 
   pub scanned : scan xs ≡ true → Scanned xs
   unfolding scan records_scan rest_scan books_scan queue_scan
@@ -167,23 +167,23 @@ module _ (xs : List ℕ) where
       let h = headed xs p.1 in
       let few : n ≤ 16 = h.few in
       let room : q ≤ 256 = h.room in
-      let r = four (all_zero xs heading_used heading_spare) (each record-tests n) (all_zero xs (32 + n * 8) (128 - n * 8)) (distinct (spread xs 32 8 n)) p.2 in
+      let r = four (all_zero xs heading_used heading_spare) (each record_tests n) (all_zero xs (32 + n * 8) (128 - n * 8)) (distinct (spread xs 32 8 n)) p.2 in
       let s = three (sound_loop n (loop_at xs)) (books_scan most full xs) (queue_scan most full xs) p.3 in
-      let t = both (each book-tests n) (all_zero xs (160 + n * 256) (4096 - n * 256)) s.1 in
-      let u = both (each slot-tests q) (all_zero xs (4256 + q * 11) (2912 - q * 11)) s.2 in
-      let rec : (i : ℕ) → i < n → RecordFacts xs i = λ i l. record-facts xs i (each_at record-tests n i r.1 l) in
+      let t = both (each book_tests n) (all_zero xs (160 + n * 256) (4096 - n * 256)) s.1 in
+      let u = both (each slot_tests q) (all_zero xs (4256 + q * 11) (2912 - q * 11)) s.2 in
+      let rec : (i : ℕ) → i < n → RecordFacts xs i = λ i l. record_facts xs i (each_at record_tests n i r.1 l) in
       let book : (i : ℕ) → i < n → SideFacts (get_or xs at_depth 0) (room_of (get_or xs at_marks 0) i) xs (bids_of i) × SideFacts (get_or xs at_depth 0) (room_of (get_or xs at_marks 0) i) xs (offers_of i) =
-      λ i l. book-facts xs i (each_at book-tests n i t.0 l) in
-      let slot : (i : ℕ) → i < q → SlotFacts xs i = λ i l. slot-facts xs i (each_at slot-tests q i u.0 l) in
+      λ i l. book_facts xs i (each_at book_tests n i t.0 l) in
+      let slot : (i : ℕ) → i < q → SlotFacts xs i = λ i l. slot_facts xs i (each_at slot_tests q i u.0 l) in
       record {
         long = leb-true store_size (length xs) p.0;
         head = h;
         loop = s.0;
         zeros = record {
           heading = λ k l m. run heading_used heading_spare k r.0 l (omega arith);
-          in-record = λ i j l m o. (rec i l).spare j m o;
+          in_record = λ i j l m o. (rec i l).spare j m o;
           records = λ k l m. run (32 + n * 8) (128 - n * 8) k r.2 l (omega arith);
-          in-side = λ i j l m o.
+          in_side = λ i j l m o.
               below_or (i % 2) 1
               (λ g.
               let y : bids_of (i / 2) + j ≡ 160 + i * 128 + j = omega arith in
@@ -192,7 +192,7 @@ module _ (xs : List ℕ) where
               let y : offers_of (i / 2) + j ≡ 160 + i * 128 + j = omega arith in
               rw y at ((book (i / 2) (omega arith)).1.spare j m o));
           sides = λ k l m. run (160 + n * 256) (4096 - n * 256) k t.1 l (omega arith);
-          in-slot = λ i l. (slot i l).spare;
+          in_slot = λ i l. (slot i l).spare;
           queue = λ k l m. run (4256 + q * 11) (2912 - q * 11) k u.1 l (omega arith);
         };
         records = rec;
@@ -202,21 +202,21 @@ module _ (xs : List ℕ) where
         slots = slot;
       }
 
-  pub scan-of : Scanned xs → scan xs ≡ true
+  pub scan_of : Scanned xs → scan xs ≡ true
   unfolding scan records_scan rest_scan books_scan queue_scan
-  scan-of s =
+  scan_of s =
       let h = s.head in
       let few : n ≤ 16 = h.few in
       let room : q ≤ 256 = h.room in
-      and-true (le-leb store_size (length xs) s.long)
-      (and-true (heading-of xs h)
-      (and-true
-      (and-true (zero_of xs heading_used heading_spare (λ k l. s.zeros.heading (heading_used + k) (omega arith) (omega arith)))
-      (and-true (each_of record-tests n (λ i l. facts-record xs i (s.records i l)))
-      (and-true (zero_of xs (32 + n * 8) (128 - n * 8) (λ k l. s.zeros.records (32 + n * 8 + k) (omega arith) (omega arith))) s.apart)))
-      (and-true s.loop
-      (and-true
-      (and-true (each_of book-tests n (λ i l. facts-book xs i (s.bids i l) (s.offers i l)))
+      and_true (le-leb store_size (length xs) s.long)
+      (and_true (heading_of_lem xs h)
+      (and_true
+      (and_true (zero_of xs heading_used heading_spare (λ k l. s.zeros.heading (heading_used + k) (omega arith) (omega arith)))
+      (and_true (each_of record_tests n (λ i l. facts_record xs i (s.records i l)))
+      (and_true (zero_of xs (32 + n * 8) (128 - n * 8) (λ k l. s.zeros.records (32 + n * 8 + k) (omega arith) (omega arith))) s.apart)))
+      (and_true s.loop
+      (and_true
+      (and_true (each_of book_tests n (λ i l. facts_book xs i (s.bids i l) (s.offers i l)))
       (zero_of xs (160 + n * 256) (4096 - n * 256) (λ k l. s.zeros.sides (160 + n * 256 + k) (omega arith) (omega arith))))
-      (and-true (each_of slot-tests q (λ i l. facts-slot xs i (s.slots i l)))
+      (and_true (each_of slot_tests q (λ i l. facts_slot xs i (s.slots i l)))
       (zero_of xs (4256 + q * 11) (2912 - q * 11) (λ k l. s.zeros.queue (4256 + q * 11 + k) (omega arith) (omega arith))))))))

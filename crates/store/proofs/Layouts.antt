@@ -4,5 +4,5 @@ use mathlib.Core.Bool.{false}
 use Rattle.board.specs.Sound.{among}
 use Rattle.store.specs.Layout.{layout_number, earlier_layouts}
 
-pub new-number : among layout_number earlier_layouts ≡ false
-new-number = refl
+pub new_number : among layout_number earlier_layouts ≡ false
+new_number = refl

@@ -5,5 +5,5 @@ use Prim.Native.Nat.{ℕ}
 use Rattle.heading.specs.declared.Heading.{Heading}
 use Rattle.store.specs.Meaning.{st}
 
-pub state-by : {h g : Heading} {xs ys : List ℕ} → h ≡ g → xs ≡ ys → st h xs ≡ st g ys
-state-by p q = cc
+pub state_by : {h g : Heading} {xs ys : List ℕ} → h ≡ g → xs ≡ ys → st h xs ≡ st g ys
+state_by p q = cc

@@ -15,8 +15,8 @@ use Rattle.stretch.specs.Runs.{run_of, Ends}
 use Rattle.stretch.proofs.Stretching.{too_short}
 
 -- from a place to the end
-pub rest-is : (s : List ℕ) (p : ℕ) → take (length s - p) (drop p s) ≡ drop p s
-rest-is s p = take_all (length s - p) (drop p s) (rw length-drop (omega arith))
+pub rest_is : (s : List ℕ) (p : ℕ) → take (length s - p) (drop p s) ≡ drop p s
+rest_is s p = take_all (length s - p) (drop p s) (rw length-drop (omega arith))
 
 -- ---- a byte at a time
 module _ (rec : List ℕ) (p : ℕ) where
@@ -24,9 +24,9 @@ module _ (rec : List ℕ) (p : ℕ) where
   unfolding run_of
   run_end l = rw (drop_of_length-le rec {i = p} l)
 
-  pub run-stop : 1 ≤ stretch_at rec p → run_of (drop p rec) ≡ 0
+  pub run_stop : 1 ≤ stretch_at rec p → run_of (drop p rec) ≡ 0
   unfolding run_of
-  run-stop l = go (drop p rec) l
+  run_stop l = go (drop p rec) l
     where
       go : (s : List ℕ) → 1 ≤ stretch_of s → run_of s ≡ 0
       go [] h = refl
@@ -41,31 +41,31 @@ module _ (rec : List ℕ) (p : ℕ) where
 
 -- ---- a turn of the code's loop
 module _ (rec : List ℕ) (at i : ℕ) (h : at + run_of (drop at rec) ≡ i + run_of (drop i rec)) where
-  pub run-done : length rec ≤ i → Ends rec at i 0
-  run-done l = record { here = omega (arith, run_end rec i l); after = sym (too_short (drop i rec) (rw length-drop (omega arith))) }
+  pub run_done : length rec ≤ i → Ends rec at i 0
+  run_done l = record { here = omega (arith, run_end rec i l); after = sym (too_short (drop i rec) (rw length-drop (omega arith))) }
 
   module _ (m : ℕ) (e : m ≡ stretch_at rec i) where
-    pub run-found : (m ≡ 0 → ⊥) → Ends rec at i m
-    run-found l = record { here = omega (arith, run-stop rec i (omega arith)); after = e }
+    pub run_found : (m ≡ 0 → ⊥) → Ends rec at i m
+    run_found l = record { here = omega (arith, run_stop rec i (omega arith)); after = e }
 
-    pub run-goes : i < length rec → m ≡ 0 → at + run_of (drop at rec) ≡ i + 1 + run_of (drop (i + 1) rec)
-    run-goes l z = omega (arith, run_more rec i l (sym e ∙ z))
+    pub run_goes : i < length rec → m ≡ 0 → at + run_of (drop at rec) ≡ i + 1 + run_of (drop (i + 1) rec)
+    run_goes l z = omega (arith, run_more rec i l (sym e ∙ z))
 
 -- ---- whole
-pub run-le : (s : List ℕ) → run_of s ≤ length s
+pub run_le : (s : List ℕ) → run_of s ≤ length s
 unfolding run_of
-run-le [] = omega arith
-run-le (b ∷ s) = go (eqb (stretch_of (b ∷ s)) 0) (run-le s)
+run_le [] = omega arith
+run_le (b ∷ s) = go (eqb (stretch_of (b ∷ s)) 0) (run_le s)
   where
     go : (t : Bool) → run_of s ≤ length s → cond t (run_of s + 1) 0 ≤ suc (length s)
     go true h = omega arith
     go false h = omega arith
 
 -- no message is taken inside
-pub run-free : (s : List ℕ) (q : ℕ) → q < run_of s → stretch_of (drop q s) ≡ 0
+pub run_free : (s : List ℕ) (q : ℕ) → q < run_of s → stretch_of (drop q s) ≡ 0
 unfolding run_of
-run-free [] q h = absurd (omega arith)
-run-free (b ∷ s) q h = go (eqb (stretch_of (b ∷ s)) 0) q refl h (λ j l. run-free s j l)
+run_free [] q h = absurd (omega arith)
+run_free (b ∷ s) q h = go (eqb (stretch_of (b ∷ s)) 0) q refl h (λ j l. run_free s j l)
   where
     go : (t : Bool) (q : ℕ) → eqb (stretch_of (b ∷ s)) 0 ≡ t → q < cond t (run_of s + 1) 0 → ((j : ℕ) → j < run_of s → stretch_of (drop j s) ≡ 0)
         → stretch_of (drop q (b ∷ s)) ≡ 0
@@ -74,10 +74,10 @@ run-free (b ∷ s) q h = go (eqb (stretch_of (b ∷ s)) 0) q refl h (λ j l. run
     go false q e h i = absurd (omega arith)
 
 -- and it ends with the bytes, or where one is
-pub run-stops : (s : List ℕ) → (run_of s ≡ length s) ⊎ (1 ≤ stretch_of (drop (run_of s) s))
+pub run_stops : (s : List ℕ) → (run_of s ≡ length s) ⊎ (1 ≤ stretch_of (drop (run_of s) s))
 unfolding run_of
-run-stops [] = inl refl
-run-stops (b ∷ s) = go (eqb (stretch_of (b ∷ s)) 0) refl (run-stops s)
+run_stops [] = inl refl
+run_stops (b ∷ s) = go (eqb (stretch_of (b ∷ s)) 0) refl (run_stops s)
   where
     go : (t : Bool) → eqb (stretch_of (b ∷ s)) 0 ≡ t → (run_of s ≡ length s) ⊎ (1 ≤ stretch_of (drop (run_of s) s))
         → (cond t (run_of s + 1) 0 ≡ suc (length s)) ⊎ (1 ≤ stretch_of (drop (cond t (run_of s + 1) 0) (b ∷ s)))

@@ -12,30 +12,30 @@ use lib.ListN.{length, get_or, take, drop, take-append-drop}
 use lib.Seq.{take-take, take-append-add, length-take-le, get_or-drop}
 use Rattle.digits.proofs.Width.{both}
 use Rattle.text.specs.Text.{width_to, width_of, decimal, fixed}
-use Rattle.text.proofs.Written.{length-decimal, width-le, width-pos}
+use Rattle.text.proofs.Written.{length_decimal, width_le, width_pos}
 use Rattle.chain.specs.Fields.{Field, field}
 use Rattle.chain.specs.Bytes.{field_bytes, bytes_of, fair, all_fair}
 use Rattle.chain.specs.Places.{part}
-use Rattle.chain.proofs.Inverse.{Stands, stands, length-field, fair-is}
+use Rattle.chain.proofs.Inverse.{Stands, stands, length_field, fair_is}
 use Rattle.frame.specs.Frames.{frame_of}
 use Rattle.frame.specs.ByPlace.{preamble}
 use Rattle.frame.specs.declared.Framed.{Framed}
-use Rattle.frame.proofs.Well.{Well, tags, nine-fair, whole_is, whole_length, inner-length, count-back}
-use Rattle.frame.proofs.Framing.{Held, frame-cases}
+use Rattle.frame.proofs.Well.{Well, tags, nine_fair, whole_is, whole_length, inner_length, count_back}
+use Rattle.frame.proofs.Framing.{Held, frame_cases}
 use Rattle.stretch.specs.Stretches.{passes, Taken, longest, named_of, if_taken, stretch_of, stretch_at}
 use Rattle.stretch.specs.Windows.{beginning}
 
 -- ---- what passes holds but for its type
-good-held : (t : List ℕ) → passes (frame_of t) ≡ true → Held t
-good-held t g = go (frame-cases t)
+good_held : (t : List ℕ) → passes (frame_of t) ≡ true → Held t
+good_held t g = go (frame_cases t)
   where
     go : (frame_of t ≡ Framed.BadFrame) ⊎ Held t → Held t
     go (inl q) = absurd (false≢true (ap passes (sym q) ∙ g))
     go (inr h) = h
 
-nine-digit : decimal 9 ≡ 57 ∷ []
+nine_digit : decimal 9 ≡ 57 ∷ []
 unfolding decimal width_of width_to fixed
-nine-digit = refl
+nine_digit = refl
 
 -- ---- and its head names its length
 module _ (t c : List ℕ) (body : List Field) (v : ℕ) (x : Well t c body v) where
@@ -54,41 +54,41 @@ module _ (t c : List ℕ) (body : List Field) (v : ℕ) (x : Well t c body v) wh
   whole : t ≡ preamble ++ (field_bytes nine ++ more)
   whole = x.same ∙ whole_is c body v
 
-  digits-five : d ≤ 5
+  digits_five : d ≤ 5
   unfolding width_of
-  digits-five = rw length-decimal (width-le 17 n 5 (omega arith) (omega (arith, whole_length t c body v x, x.short)))
+  digits_five = rw length_decimal (width_le 17 n 5 (omega arith) (omega (arith, whole_length t c body v x, x.short)))
 
-  nine-length : length (field_bytes nine) ≡ 3 + d
-  nine-length = length-field nine ∙ rw tags.0 (omega arith)
+  nine_length : length (field_bytes nine) ≡ 3 + d
+  nine_length = length_field nine ∙ rw tags.0 (omega arith)
 
   head_at : take 18 t ≡ preamble ++ (field_bytes nine ++ take (5 - d) more)
   head_at =
-      let q : 8 ≡ length (field_bytes nine) + (5 - d) = omega (arith, nine-length, digits-five) in
+      let q : 8 ≡ length (field_bytes nine) + (5 - d) = omega (arith, nine_length, digits_five) in
       let p : take 8 (field_bytes nine ++ more) ≡ field_bytes nine ++ take (5 - d) more = ap (λ (k : ℕ). take k (field_bytes nine ++ more)) q ∙ take-append-add (field_bytes nine) more (5 - d) in
       ap (take 18) whole ∙ ap (λ (l : List ℕ). preamble ++ l) p
 
-  head-stands : Stands (take 18 t) 10 nine (take (5 - d) more) 12 (12 + d)
-  head-stands = rw tags.0 at (stands (take 18 t) 10 nine (take (5 - d) more) (nine-fair n) (rw head_at))
+  head_stands : Stands (take 18 t) 10 nine (take (5 - d) more) 12 (12 + d)
+  head_stands = rw tags.0 at (stands (take 18 t) 10 nine (take (5 - d) more) (nine_fair n) (rw head_at))
 
-  well-named : named_of (take 18 t) ≡ length t
+  well_named : named_of (take 18 t) ≡ length t
   unfolding named_of
-  well-named =
+  well_named =
       let b : take 10 (take 18 t) ≡ preamble = rw head_at in
-      rw (b, head-stands.step, head-stands.text, count-back t c body v x) (omega (arith, whole_length t c body v x))
+      rw (b, head_stands.step, head_stands.text, count_back t c body v x) (omega (arith, whole_length t c body v x))
 
-  abbrev well-rest : List ℕ
-  well-rest = (decimal n ++ (1 ∷ [])) ++ more
+  abbrev well_rest : List ℕ
+  well_rest = (decimal n ++ (1 ∷ [])) ++ more
 
-  well-begins : t ≡ beginning ++ well-rest
+  well_begins : t ≡ beginning ++ well_rest
   unfolding field_bytes
-  well-begins = whole ∙ rw nine-digit
+  well_begins = whole ∙ rw nine_digit
 
   -- 8 takes 10 bytes, 9 and its number 4, 35 and its type 5, and 10 takes 7
-  well-long : 26 ≤ length t
+  well_long : 26 ≤ length t
   unfolding width_of
-  well-long =
-      let f = fair-is (field 35 c) (both (fair (field 35 c)) (all_fair body) x.fair).0 in
-      omega (arith, whole_length t c body v x, inner-length t c body v x, f.some, length-decimal n, width-pos 17 n)
+  well_long =
+      let f = fair_is (field 35 c) (both (fair (field 35 c)) (all_fair body) x.fair).0 in
+      omega (arith, whole_length t c body v x, inner_length t c body v x, f.some, length_decimal n, width_pos 17 n)
 
 -- ---- a stretch that is taken
 pub record Bounds (s : List ℕ) (n : ℕ) : Type 0 where
@@ -98,33 +98,33 @@ pub record Bounds (s : List ℕ) (n : ℕ) : Type 0 where
   pub rest : List ℕ
   pub begins : s ≡ beginning ++ rest
 
-pub taken-named : (s : List ℕ) {n : ℕ} → Taken s n → Bounds s n
-taken-named s {n} k =
+pub taken_named : (s : List ℕ) {n : ℕ} → Taken s n → Bounds s n
+taken_named s {n} k =
     let t = take n s in
-    let h = good-held t k.good in
+    let h = good_held t k.good in
     let l : length t ≡ n = length-take-le n s k.inside in
-    let a : 26 ≤ n = omega (arith, well-long t h.c h.body h.v h.well) in
+    let a : 26 ≤ n = omega (arith, well_long t h.c h.body h.v h.well) in
     let w : take 18 t ≡ take 18 s = take-take 18 n s (omega arith) in
     record {
       low = a;
       high = omega (arith, h.well.short);
-      name = ap named_of (sym w) ∙ well-named t h.c h.body h.v h.well ∙ l;
-      rest = well-rest t h.c h.body h.v h.well ++ drop n s;
-      begins = sym (take-append-drop n s) ∙ ap (λ (l : List ℕ). l ++ drop n s) (well-begins t h.c h.body h.v h.well) ∙ append_assoc beginning (well-rest t h.c h.body h.v h.well) (drop n s);
+      name = ap named_of (sym w) ∙ well_named t h.c h.body h.v h.well ∙ l;
+      rest = well_rest t h.c h.body h.v h.well ++ drop n s;
+      begins = sym (take-append-drop n s) ∙ ap (λ (l : List ℕ). l ++ drop n s) (well_begins t h.c h.body h.v h.well) ∙ append_assoc beginning (well_rest t h.c h.body h.v h.well) (drop n s);
     }
 
 -- at most one
-pub one-stretch : (s : List ℕ) {n m : ℕ} → Taken s n → Taken s m → n ≡ m
-one-stretch s a b = sym (taken-named s a).name ∙ (taken-named s b).name
+pub one_stretch : (s : List ℕ) {n m : ℕ} → Taken s n → Taken s m → n ≡ m
+one_stretch s a b = sym (taken_named s a).name ∙ (taken_named s b).name
 
 -- ---- it is found, and nothing else is
-pub taken-stretch : (s : List ℕ) (n : ℕ) → Taken s n → stretch_of s ≡ n
+pub taken_stretch : (s : List ℕ) (n : ℕ) → Taken s n → stretch_of s ≡ n
 unfolding stretch_of
-taken-stretch s n h = rw ((taken-named s h).name, le-leb n (length s) h.inside, h.good)
+taken_stretch s n h = rw ((taken_named s h).name, le-leb n (length s) h.inside, h.good)
 
-pub stretch-taken : (s : List ℕ) → 1 ≤ stretch_of s → Taken s (stretch_of s)
+pub stretch_taken : (s : List ℕ) → 1 ≤ stretch_of s → Taken s (stretch_of s)
 unfolding stretch_of
-stretch-taken s = go (named_of (take 18 s))
+stretch_taken s = go (named_of (take 18 s))
   where
     go : (n : ℕ) → 1 ≤ if_taken n s → Taken s (if_taken n s)
     go n = by (leb n (length s)) (passes (frame_of (take n s))) refl refl
@@ -134,27 +134,27 @@ stretch-taken s = go (named_of (take 18 s))
         by true false p q h = absurd (omega arith)
         by false b p q h = absurd (omega arith)
 
-pub none-taken : (s : List ℕ) → ((n : ℕ) → Taken s n → ⊥) → stretch_of s ≡ 0
-none-taken s f = go (leb 1 (stretch_of s)) refl
+pub none_taken : (s : List ℕ) → ((n : ℕ) → Taken s n → ⊥) → stretch_of s ≡ 0
+none_taken s f = go (leb 1 (stretch_of s)) refl
   where
     go : (b : Bool) → leb 1 (stretch_of s) ≡ b → stretch_of s ≡ 0
-    go true e = absurd (f (stretch_of s) (stretch-taken s (leb-true 1 (stretch_of s) e)))
+    go true e = absurd (f (stretch_of s) (stretch_taken s (leb-true 1 (stretch_of s) e)))
     go false e = omega (arith, leb-false 1 (stretch_of s) e)
 
 -- every message starts with '8'
 pub other_byte : (rec : List ℕ) (p : ℕ) → (get_or rec p 0 ≡ 56 → ⊥) → stretch_at rec p ≡ 0
-other_byte rec p f = none-taken (drop p rec) (λ n h. f (rw (get_or-drop p rec 0 0, add-zero) at (ap (λ (l : List ℕ). get_or l 0 0) (taken-named (drop p rec) h).begins)))
+other_byte rec p f = none_taken (drop p rec) (λ n h. f (rw (get_or-drop p rec 0 0, add-zero) at (ap (λ (l : List ℕ). get_or l 0 0) (taken_named (drop p rec) h).begins)))
 
 -- ---- what the code finds
 pub too_short : (s : List ℕ) → length s < 18 → stretch_of s ≡ 0
-too_short s l = none-taken s (λ n h. omega (arith, (taken-named s h).low, h.inside))
+too_short s l = none_taken s (λ n h. omega (arith, (taken_named s h).low, h.inside))
 
 module _ (s : List ℕ) (m : ℕ) (e : m ≡ named_of (take 18 s)) where
   pub beyond : length s < m → stretch_of s ≡ 0
-  beyond l = none-taken s (λ n h. omega (arith, (taken-named s h).name, h.inside))
+  beyond l = none_taken s (λ n h. omega (arith, (taken_named s h).name, h.inside))
 
   pub fails : passes (frame_of (part 0 m s)) ≡ false → stretch_of s ≡ 0
-  fails p = none-taken s (λ n h. let q : n ≡ m - 0 = omega (arith, (taken-named s h).name) in false≢true (sym p ∙ rw q at h.good))
+  fails p = none_taken s (λ n h. let q : n ≡ m - 0 = omega (arith, (taken_named s h).name) in false≢true (sym p ∙ rw q at h.good))
 
   pub holds : m ≤ length s → passes (frame_of (part 0 m s)) ≡ true → stretch_of s ≡ m
-  holds l p = taken-stretch s m (record { inside = l; good = rw sub-zero at p })
+  holds l p = taken_stretch s m (record { inside = l; good = rw sub-zero at p })

@@ -36,8 +36,8 @@ module _ (b : Board) where
   abbrev Alike : Quoted → Bool → Type 0
   Alike q z = quote_number q ≡ 0 → take 3 (quote_values b.depth q) ≡ take 3 (summed z)
 
-  at-time : (i time limit : ℕ) → Alike (quote_at i time limit b) (eqb b.H 0)
-  at-time i time limit =
+  at_time : (i time limit : ℕ) → Alike (quote_at i time limit b) (eqb b.H 0)
+  at_time i time limit =
       go (leb (length b.insts) i) (at i b).waiting (eqb b.H 0) (lt_z (age_of time b.heard) (pos 0)) (lt_z (pos (limit * 1000)) (age_of time b.heard))
     where
       go : (f w z s l : Bool) → Alike (tested i f w z s l) z
@@ -48,14 +48,14 @@ module _ (b : Board) where
       go false false false false true e = no e
       go false false false false false e = refl
 
-  at-now : (n : Number) (id limit : ℕ) → Alike (at_now n id limit b) (eqb b.H 0)
-  at-now Number.No id limit e = no e
-  at-now (Number.Is time) id limit e = go (id_fine id && leb limit most_limit) e
+  at_now_lem : (n : Number) (id limit : ℕ) → Alike (at_now n id limit b) (eqb b.H 0)
+  at_now_lem Number.No id limit e = no e
+  at_now_lem (Number.Is time) id limit e = go (id_fine id && leb limit most_limit) e
     where
       go : (t : Bool) → Alike (cond t (quote_at (look id b.insts) time limit b) Quoted.BadArgument) (eqb b.H 0)
-      go true e = at-time (look id b.insts) time limit e
+      go true e = at_time (look id b.insts) time limit e
       go false e = no e
 
-pub dated-as-quotes : DatedAsQuotes
+pub dated_as_quotes : DatedAsQuotes
 unfolding quote_of
-dated-as-quotes id now limit b = at-now b (moment_of now) id limit
+dated_as_quotes id now limit b = at_now_lem b (moment_of now) id limit

@@ -11,7 +11,7 @@ use Rattle.board.specs.Sound.{heard_fine}
 use Rattle.store.specs.Layout.{at_number, at_base, at_heard, at_marks}
 use Rattle.store.specs.Meaning.{board_of, board_at}
 use Rattle.sound.specs.Sound.{sound}
-use Rattle.sound.proofs.Marks.{marks-back}
+use Rattle.sound.proofs.Marks.{marks_back}
 use Rattle.sound.proofs.Readers.{formed, board}
 use Rattle.ask.specs.Ask.{moment_words}
 use Rattle.summary.specs.Summary.{heard_words, summary_words, summary_answer, summary_out, Summed}
@@ -36,7 +36,7 @@ put_is l xs s =
     let H = get_or xs at_number 0 in
     let heard = get_or xs at_heard 0 in
     let B = get_or xs at_base 0 in
-    let back = marks-back (get_or xs at_marks 0) xs _ (formed xs s).marks in
+    let back = marks_back (get_or xs at_marks 0) xs _ (formed xs s).marks in
     parts l H heard B (get_or xs at_marks 0) ∙ ap (λ (m : ℕ). sets l 0 (H ∷ heard_words H heard ++ (B ∷ m ∷ []))) (sym back)
 
 -- the heard moment is one, where anything is heard

@@ -21,11 +21,11 @@ abbrev pub most : ℕ
 most = 18446744073709551615
 
 -- ---- differences
-sub-below : (a b : ℕ) → a < b → sub_ℕ a b ≡ negsuc (b - suc a)
-sub-below a b h = rw (lt-ltb a b h)
+sub_below : (a b : ℕ) → a < b → sub_ℕ a b ≡ negsuc (b - suc a)
+sub_below a b h = rw (lt-ltb a b h)
 
-sub-above : (a b : ℕ) → b ≤ a → sub_ℕ a b ≡ pos (a - b)
-sub-above a b h = rw (le-ltb a b h)
+sub_above : (a b : ℕ) → b ≤ a → sub_ℕ a b ≡ pos (a - b)
+sub_above a b h = rw (le-ltb a b h)
 
 -- a - b and c - d are one number where a + d and c + b are
 sub_same : (a b c d : ℕ) → a + d ≡ c + b → sub_ℕ a b ≡ sub_ℕ c d
@@ -34,18 +34,18 @@ sub_same a b c d e = go (ltb a b) refl
     go : (t : Bool) → ltb a b ≡ t → sub_ℕ a b ≡ sub_ℕ c d
     go true h =
         let k : a < b = ltb-true a b h in
-        sub-below a b k ∙ ap negsuc (omega arith) ∙ sym (sub-below c d (omega arith))
+        sub_below a b k ∙ ap negsuc (omega arith) ∙ sym (sub_below c d (omega arith))
     go false h =
         let k : b ≤ a = ltb-false a b h in
-        sub-above a b k ∙ ap pos (omega arith) ∙ sym (sub-above c d (omega arith))
+        sub_above a b k ∙ ap pos (omega arith) ∙ sym (sub_above c d (omega arith))
 
 pub sum_below : (l : ℕ) → l < half → sum_of l ≡ negsuc (half - suc l)
 unfolding sum_of
-sum_below l h = sub-below l half h
+sum_below l h = sub_below l half h
 
-pub sum-above : (l : ℕ) → half ≤ l → sum_of l ≡ pos (l - half)
+pub sum_above : (l : ℕ) → half ≤ l → sum_of l ≡ pos (l - half)
 unfolding sum_of
-sum-above l h = sub-above l half h
+sum_above l h = sub_above l half h
 
 -- ---- up and down
 same_sum : (a b l : ℕ) → a + half ≡ l + b → sub_ℕ a b ≡ sum_of l
@@ -61,7 +61,7 @@ plus l x = go (ltb l half) refl
         ap (λ (z : ℤ). z +ℤ pos x) (sum_below l k) ∙ same_sum x (suc (half - suc l)) (l + x) (omega arith)
     go false h =
         let k : half ≤ l = ltb-false l half h in
-        ap (λ (z : ℤ). z +ℤ pos x) (sum-above l k) ∙ ap pos (omega arith) ∙ sym (sum-above (l + x) (omega arith))
+        ap (λ (z : ℤ). z +ℤ pos x) (sum_above l k) ∙ ap pos (omega arith) ∙ sym (sum_above (l + x) (omega arith))
 
 minus : (l x : ℕ) → x ≤ l → sum_of l +ℤ neg_ℤ (pos x) ≡ sum_of (l - x)
 minus l zero g = plus l 0 ∙ ap sum_of (omega arith)
@@ -73,7 +73,7 @@ minus l (suc y) g = go (ltb l half) refl
         ap (λ (z : ℤ). z +ℤ negsuc y) (sum_below l k) ∙ ap negsuc (omega arith) ∙ sym (sum_below (l - suc y) (omega arith))
     go false h =
         let k : half ≤ l = ltb-false l half h in
-        ap (λ (z : ℤ). z +ℤ negsuc y) (sum-above l k) ∙ same_sum (l - half) (suc y) (l - suc y) (omega arith)
+        ap (λ (z : ℤ). z +ℤ negsuc y) (sum_above l k) ∙ same_sum (l - half) (suc y) (l - suc y) (omega arith)
 
 -- ---- what fits
 fits_neg : (n : ℕ) → half ≤ n → fits (negsuc n) ≡ false
@@ -90,15 +90,15 @@ fits_sum l g = go (ltb l half) refl
         rw (sum_below l k, le-leb (half - suc l) most_below (omega arith))
     go false h =
         let k : half ≤ l = ltb-false l half h in
-        rw (sum-above l k, le-leb (l - half) most_above (omega arith))
+        rw (sum_above l k, le-leb (l - half) most_above (omega arith))
 
 past_top : (l : ℕ) → most < l → fits (sum_of l) ≡ false
 unfolding fits
-past_top l g = rw (sum-above l (omega arith), lt-leb (l - half) most_above (omega arith))
+past_top l g = rw (sum_above l (omega arith), lt-leb (l - half) most_above (omega arith))
 
-past-bottom : (l x : ℕ) → l < x → fits (sum_of l +ℤ neg_ℤ (pos x)) ≡ false
-past-bottom l zero g = absurd (omega arith)
-past-bottom l (suc y) g = go (ltb l half) refl
+past_bottom : (l x : ℕ) → l < x → fits (sum_of l +ℤ neg_ℤ (pos x)) ≡ false
+past_bottom l zero g = absurd (omega arith)
+past_bottom l (suc y) g = go (ltb l half) refl
   where
     go : (t : Bool) → ltb l half ≡ t → fits (sum_of l +ℤ negsuc y) ≡ false
     go true h =
@@ -106,17 +106,17 @@ past-bottom l (suc y) g = go (ltb l half) refl
         ap (λ (z : ℤ). fits (z +ℤ negsuc y)) (sum_below l k) ∙ fits_neg (suc (half - suc l + y)) (omega arith)
     go false h =
         let k : half ≤ l = ltb-false l half h in
-        ap (λ (z : ℤ). fits (z +ℤ negsuc y)) (sum-above l k) ∙ ap fits (sub-below (l - half) (suc y) (omega arith)) ∙ fits_neg (suc y - suc (l - half)) (omega arith)
+        ap (λ (z : ℤ). fits (z +ℤ negsuc y)) (sum_above l k) ∙ ap fits (sub_below (l - half) (suc y) (omega arith)) ∙ fits_neg (suc y - suc (l - half)) (omega arith)
 
 -- ---- the level of a sum
 
 -- a level's own sum has that level
 back : (l : ℕ) → nat_abs (sum_of l +ℤ pos half) ≡ l
-back l = ap nat_abs (plus l half ∙ sum-above (l + half) (omega arith)) ∙ (omega arith)
+back l = ap nat_abs (plus l half ∙ sum_above (l + half) (omega arith)) ∙ (omega arith)
 
-level-at : (z : ℤ) (l : ℕ) → l ≤ most → z ≡ sum_of l → level_of z ≡ Level.At l
+level_at : (z : ℤ) (l : ℕ) → l ≤ most → z ≡ sum_of l → level_of z ≡ Level.At l
 unfolding level_of
-level-at z l g e = rw (e, fits_sum l g) (ap Level.At (back l))
+level_at z l g e = rw (e, fits_sum l g) (ap Level.At (back l))
 
 level_out : (z : ℤ) → fits z ≡ false → level_of z ≡ Level.Out
 unfolding level_of
@@ -139,13 +139,13 @@ at_level : (z : ℤ) → fits z ≡ true → Stands z (nat_abs (z +ℤ pos half)
 unfolding fits
 at_level (pos n) h =
     let k = leb-true n most_above h in
-    record { sum = sym (sum-above (n + half) (omega arith) ∙ ap pos (omega arith)); fine = h; small = omega arith }
+    record { sum = sym (sum_above (n + half) (omega arith) ∙ ap pos (omega arith)); fine = h; small = omega arith }
 at_level (negsuc n) h = go (leb n most_below) refl h
   where
     go : (t : Bool) → leb n most_below ≡ t → t && true ≡ true → Stands (negsuc n) (nat_abs (negsuc n +ℤ pos half))
     go true q e =
         let k = leb-true n most_below q in
-        rw (sub-above half (suc n) (omega arith))
+        rw (sub_above half (suc n) (omega arith))
         (record { sum = sym (sum_below (half - suc n) (omega arith) ∙ ap negsuc (omega arith)); fine = h; small = omega arith })
     go false q e = absurd (false≢true e)
 
@@ -180,7 +180,7 @@ rises : (l m u : ℕ) → l ≤ most → up l (product_of m u (most - l)) ≡ le
 rises l m u g = go (leb (m * u) (most - l)) refl
   where
     go : (t : Bool) → leb (m * u) (most - l) ≡ t → up l (cond t (Product.Is (m * u)) Product.Above) ≡ level_of (sum_of l +ℤ pos (m * u))
-    go true h = let k = leb-true (m * u) (most - l) h in sym (level-at (sum_of l +ℤ pos (m * u)) (l + m * u) (omega arith) (plus l (m * u)))
+    go true h = let k = leb-true (m * u) (most - l) h in sym (level_at (sum_of l +ℤ pos (m * u)) (l + m * u) (omega arith) (plus l (m * u)))
     go false h =
         let k = leb-false (m * u) (most - l) h in
         sym (level_out (sum_of l +ℤ pos (m * u)) (ap fits (plus l (m * u)) ∙ past_top (l + m * u) (omega arith)))
@@ -190,13 +190,13 @@ falls : (l m u : ℕ) → l ≤ most → down l (product_of m u l) ≡ level_of 
 falls l m u g = go (leb (m * u) l) refl
   where
     go : (t : Bool) → leb (m * u) l ≡ t → down l (cond t (Product.Is (m * u)) Product.Above) ≡ level_of (sum_of l +ℤ neg_ℤ (pos (m * u)))
-    go true h = let k = leb-true (m * u) l h in sym (level-at (sum_of l +ℤ neg_ℤ (pos (m * u))) (l - m * u) (omega arith) (minus l (m * u) k))
-    go false h = sym (level_out (sum_of l +ℤ neg_ℤ (pos (m * u))) (past-bottom l (m * u) (leb-false (m * u) l h)))
+    go true h = let k = leb-true (m * u) l h in sym (level_at (sum_of l +ℤ neg_ℤ (pos (m * u))) (l - m * u) (omega arith) (minus l (m * u) k))
+    go false h = sym (level_out (sum_of l +ℤ neg_ℤ (pos (m * u))) (past_bottom l (m * u) (leb-false (m * u) l h)))
 
 -- ---- a step as the code makes it
-pub mag-nat_abs : (p : ℤ) → lt_z p (pos 0) ≡ true → mag p + 1 ≡ nat_abs p
-mag-nat_abs (pos n) h = absurd (omega (arith, ltb-true n 0 h))
-mag-nat_abs (negsuc n) h = omega arith
+pub mag_nat_abs : (p : ℤ) → lt_z p (pos 0) ≡ true → mag p + 1 ≡ nat_abs p
+mag_nat_abs (pos n) h = absurd (omega (arith, ltb-true n 0 h))
+mag_nat_abs (negsuc n) h = omega arith
 
 is_down : (l : ℕ) (p : ℤ) (u : ℕ) → l ≤ most → lt_z p (pos 0) ≡ true → down l (product_of (nat_abs p) u l) ≡ level_of (sum_of l +ℤ p *ℤ pos u)
 is_down l (pos n) u g h = absurd (omega (arith, ltb-true n 0 h))
@@ -208,16 +208,16 @@ is_up l (negsuc n) u g h = absurd (false≢true (sym h))
 
 -- by the product that was told, of a price as the machine has it
 module _ (l : ℕ) (p : ℤ) (u : ℕ) (low : l ≤ most) (f : SFits w64 p) (m : ℕ) (e : m ≡ nat_abs (to_z w64 (of_z w64 p))) (r x : Product) where
-  is-mag : m ≡ nat_abs p
-  is-mag = e ∙ ap nat_abs (to_z-of_z f)
+  is_mag : m ≡ nat_abs p
+  is_mag = e ∙ ap nat_abs (to_z-of_z f)
 
   pub moved_down : lt_z (to_z w64 (of_z w64 p)) (pos 0) ≡ true → r ≡ product_of m u l → r ≡ x → down l x ≡ level_of (sum_of l +ℤ p *ℤ pos u)
   moved_down h g k =
-      ap (down l) (sym k ∙ g ∙ ap (λ (a : ℕ). product_of a u l) is-mag) ∙ is_down l p u low (rw (to_z-of_z f) at h)
+      ap (down l) (sym k ∙ g ∙ ap (λ (a : ℕ). product_of a u l) is_mag) ∙ is_down l p u low (rw (to_z-of_z f) at h)
 
   pub moved_up : lt_z (to_z w64 (of_z w64 p)) (pos 0) ≡ false → r ≡ product_of m u (most - l) → r ≡ x → up l x ≡ level_of (sum_of l +ℤ p *ℤ pos u)
   moved_up h g k =
-      ap (up l) (sym k ∙ g ∙ ap (λ (a : ℕ). product_of a u (most - l)) is-mag) ∙ is_up l p u low (rw (to_z-of_z f) at h)
+      ap (up l) (sym k ∙ g ∙ ap (λ (a : ℕ). product_of a u (most - l)) is_mag) ∙ is_up l p u low (rw (to_z-of_z f) at h)
 
 pub product_small : (m u room x : ℕ) → product_of m u room ≡ Product.Is x → x ≤ room
 product_small m u room x e = go (leb (m * u) room) refl e

@@ -24,9 +24,9 @@ or_r a b = omega (arith, or_add_and a b, and_le_l a b)
 unwrapped : (a low x r : ℕ) → (a + low) % 2 ^ 64 ≡ x → a ≤ r → r + low < 2 ^ 64 → (low ≤ x) × (x ≤ r + low)
 unwrapped a low x r e h l = (omega arith, omega arith)
 
-pub four-spans : (xs : List ℕ) (at low a b c d : ℕ) → (a + low) % 2 ^ 64 ≡ get_or xs at 0 → (b + low) % 2 ^ 64 ≡ get_or xs (at + 5) 0
+pub four_spans : (xs : List ℕ) (at low a b c d : ℕ) → (a + low) % 2 ^ 64 ≡ get_or xs at 0 → (b + low) % 2 ^ 64 ≡ get_or xs (at + 5) 0
     → (c + low) % 2 ^ 64 ≡ get_or xs (at + 10) 0 → (d + low) % 2 ^ 64 ≡ get_or xs (at + 15) 0 → Spans xs at low (bit_or (bit_or a b) (bit_or c d))
-four-spans xs at low a b c d ea eb ec ed = go
+four_spans xs at low a b c d ea eb ec ed = go
   where
     r : ℕ
     r = bit_or (bit_or a b) (bit_or c d)
@@ -58,9 +58,9 @@ pub record Fits (c : Columns) : Type 0 where
   pub even : c.even ≡ 0
   pub odd : c.odd ≡ 0
 
-pub fit-facts : (c : Columns) → fits c ≡ true → Fits c
+pub fit_facts : (c : Columns) → fits c ≡ true → Fits c
 unfolding fits
-fit-facts c e =
+fit_facts c e =
     let p = leb c.price held_top in
     let s = ltb c.size 999999999999 in
     let t = ltb c.moment 320829012000000 in
@@ -78,9 +78,9 @@ fit-facts c e =
       odd = eqb-true c.odd 0 e4.1;
     }
 
-pub facts-fit : (c : Columns) → Fits c → fits c ≡ true
+pub facts_fit : (c : Columns) → Fits c → fits c ≡ true
 unfolding fits
-facts-fit c f =
+facts_fit c f =
     rw (
       le-leb c.price held_top f.price,
       lt-ltb c.size 999999999999 f.size,
@@ -91,21 +91,21 @@ facts-fit c f =
 
 -- four places joined to what was there
 module _ (xs : List ℕ) (at low : ℕ) (c : Columns) (p s b m t : ℕ) where
-  pub joins-four : Spans xs at 0 p → Spans xs (at + 1) 1 s → Spans xs (at + 2) low b → Spans xs (at + 3) 0 m → Spans xs (at + 4) 0 t
+  pub joins_four : Spans xs at 0 p → Spans xs (at + 1) 1 s → Spans xs (at + 2) low b → Spans xs (at + 3) 0 m → Spans xs (at + 4) 0 t
       → (full : ℕ)
       → Joins xs at 4 low full false c (record { price = bit_or c.price p; size = bit_or c.size s; by = bit_or c.by b; more = bit_or c.more m; moment = bit_or c.moment t; even = c.even; odd = c.odd })
-  joins-four P S B M T full = record { columns = columns; ids = ids; places = places }
+  joins_four P S B M T full = record { columns = columns; ids = ids; places = places }
     where
       r : Columns
       r = record { price = bit_or c.price p; size = bit_or c.size s; by = bit_or c.by b; more = bit_or c.more m; moment = bit_or c.moment t; even = c.even; odd = c.odd }
 
       columns : fits r ≡ true → fits c ≡ true
       columns e =
-          let f = fit-facts r e in
+          let f = fit_facts r e in
           let fp = f.price in
           let fs = f.size in
           let ft = f.moment in
-          facts-fit c (record {
+          facts_fit c (record {
             price = omega (arith, or_l c.price p, fp);
             size = omega (arith, or_l c.size s, fs);
             moment = omega (arith, or_l c.moment t, ft);
@@ -119,7 +119,7 @@ module _ (xs : List ℕ) (at low : ℕ) (c : Columns) (p s b m t : ℕ) where
       places : (most top : ℕ) → most < 2 ^ 64 → top < 2 ^ 64 → fits r ≡ true → Ids low most top r → (k : ℕ) → k < 4
           → Stands low most top full false xs (at + k * 5)
       places most top lm lt e i k l =
-          let f = fit-facts r e in
+          let f = fit_facts r e in
           let fp = f.price in
           let fs = f.size in
           let ft = f.moment in
@@ -150,20 +150,20 @@ module _ (xs : List ℕ) (at low : ℕ) (c : Columns) (p s b m t : ℕ) where
 
 -- four places whose second words were held against the first ones: e of the first and the third, o of the others
 module _ (xs : List ℕ) (at low full : ℕ) (c t : Columns) (e o : ℕ) where
-  pub joins-mixed : Joins xs at 4 low full false c t → (e ≡ 0 → Alone full xs at × Alone full xs (at + 10))
+  pub joins_mixed : Joins xs at 4 low full false c t → (e ≡ 0 → Alone full xs at × Alone full xs (at + 10))
       → (o ≡ 0 → Alone full xs (at + 5) × Alone full xs (at + 5 + 10))
       → Joins xs at 4 low full true c (record { size = t.size; by = t.by; more = t.more; moment = t.moment; even = bit_or t.even e; odd = bit_or t.odd o; price = t.price })
-  joins-mixed J E O = record { columns = λ f. J.columns (before f); ids = J.ids; places = places }
+  joins_mixed J E O = record { columns = λ f. J.columns (before f); ids = J.ids; places = places }
     where
       r : Columns
       r = record { size = t.size; by = t.by; more = t.more; moment = t.moment; even = bit_or t.even e; odd = bit_or t.odd o; price = t.price }
 
       before : fits r ≡ true → fits t ≡ true
       before g =
-          let f = fit-facts r g in
+          let f = fit_facts r g in
           let fe = f.even in
           let fo = f.odd in
-          facts-fit t (record {
+          facts_fit t (record {
             price = f.price;
             size = f.size;
             moment = f.moment;
@@ -175,10 +175,10 @@ module _ (xs : List ℕ) (at low full : ℕ) (c t : Columns) (e o : ℕ) where
       alone g k l = go k l
         where
           ez : e ≡ 0
-          ez = let fe = (fit-facts r g).even in omega (arith, or_r t.even e, fe)
+          ez = let fe = (fit_facts r g).even in omega (arith, or_r t.even e, fe)
 
           oz : o ≡ 0
-          oz = let fo = (fit-facts r g).odd in omega (arith, or_r t.odd o, fo)
+          oz = let fo = (fit_facts r g).odd in omega (arith, or_r t.odd o, fo)
 
           go : (k : ℕ) → k < 4 → Alone full xs (at + k * 5)
           go zero l = let q : at + 0 * 5 ≡ at = omega arith in rw q (E ez).0
@@ -193,14 +193,14 @@ module _ (xs : List ℕ) (at low full : ℕ) (c t : Columns) (e o : ℕ) where
           let s = J.places most top lm lt (before g) i k l in
           record { price = s.price; size = s.size; by = s.by; more = s.more; moment = s.moment; alone = λ _. alone g k l }
 
-pub joins-none : (xs : List ℕ) (at low full : ℕ) (mixed : Bool) (c : Columns) → Joins xs at 0 low full mixed c c
-joins-none xs at low full mixed c =
+pub joins_none : (xs : List ℕ) (at low full : ℕ) (mixed : Bool) (c : Columns) → Joins xs at 0 low full mixed c c
+joins_none xs at low full mixed c =
     record { columns = λ e. e; ids = λ most top i. i; places = λ most top lm lt e i k l. absurd (omega (arith, l)) }
 
 -- four places more, from the n-th on, where those before it are joined
-pub joins-more : (xs : List ℕ) (at m n low full : ℕ) (mixed : Bool) (c r t : Columns) → n ≤ m → Joins xs at m low full mixed c r
+pub joins_more : (xs : List ℕ) (at m n low full : ℕ) (mixed : Bool) (c r t : Columns) → n ≤ m → Joins xs at m low full mixed c r
     → Joins xs (at + n * 5) 4 low full mixed r t → Joins xs at (n + 4) low full mixed c t
-joins-more xs at m n low full mixed c r t h A B =
+joins_more xs at m n low full mixed c r t h A B =
     record {
       columns = λ e. A.columns (B.columns e);
       ids = λ most top i. A.ids most top (B.ids most top i);
@@ -216,8 +216,8 @@ joins-more xs at m n low full mixed c r t h A B =
         rw w at (B.places most top lm lt e i (k - n) (omega (arith, g, l)))
 
 -- the way that a test has found
-pub joins-as : (xs : List ℕ) (at n low full : ℕ) (m b : Bool) (c r : Columns) → m ≡ b → Joins xs at n low full b c r → Joins xs at n low full m c r
-joins-as xs at n low full m b c r e J = rw e J
+pub joins_as : (xs : List ℕ) (at n low full : ℕ) (m b : Bool) (c r : Columns) → m ≡ b → Joins xs at n low full b c r → Joins xs at n low full m c r
+joins_as xs at n low full m b c r e J = rw e J
 
 -- an entry that lies within the limits of a way is used
 pub used : (w : Way) (most full : ℕ) (xs : List ℕ) (at : ℕ) → Limits w most full → Stands w.low most w.top full w.mixed xs at
@@ -248,45 +248,45 @@ goes low most top c h e = go (ltb (most - low) c.by) (ltb top c.more) refl refl 
         (omega (arith, hb, h), hm)
 
 -- n places are all too few for a four, or none of them is
-pub few-all : (n : ℕ) → n < 4 → few_of n ≡ n
+pub few_all : (n : ℕ) → n < 4 → few_of n ≡ n
 unfolding few_of
-few-all n h = rw (lt-ltb n 4 h)
+few_all n h = rw (lt-ltb n 4 h)
 
-pub few-none : (n : ℕ) → 4 ≤ n → few_of n ≡ 0
+pub few_none : (n : ℕ) → 4 ≤ n → few_of n ≡ 0
 unfolding few_of
-few-none n h = rw (le-ltb n 4 h)
+few_none n h = rw (le-ltb n 4 h)
 
 -- one side more
-pub side-more : (P : ℕ → Type 0) (from j : ℕ) → ((i : ℕ) → from ≤ i → i < j → P i) → P j → (i : ℕ) → from ≤ i → i < j + 1 → P i
-side-more P from j A p i f l = go (ltb i j) refl
+pub side_more : (P : ℕ → Type 0) (from j : ℕ) → ((i : ℕ) → from ≤ i → i < j → P i) → P j → (i : ℕ) → from ≤ i → i < j + 1 → P i
+side_more P from j A p i f l = go (ltb i j) refl
   where
     go : (b : Bool) → ltb i j ≡ b → P i
     go true e = A i f (ltb-true i j e)
     go false e = let h = ltb-false i j e in let q : j ≡ i = omega (arith, h, l) in rw q at p
 
 -- the limits of the three ways: no id has a second word; the first word of each has 8 bytes; words are mixed
-pub limits-short : (most full : ℕ) → 1 ≤ most → most < 2 ^ 64 → Limits (record { low = 1; top = 0; mixed = false }) most full
-limits-short most full h l = (omega arith, h, l, omega arith, λ b m lb lm a. omega (arith, lm))
+pub limits_short : (most full : ℕ) → 1 ≤ most → most < 2 ^ 64 → Limits (record { low = 1; top = 0; mixed = false }) most full
+limits_short most full h l = (omega arith, h, l, omega arith, λ b m lb lm a. omega (arith, lm))
 
-pub limits-long : (most full : ℕ) → 1 ≤ full → full ≤ most → most < 2 ^ 64 → Limits (record { low = full; top = most; mixed = false }) most full
+pub limits_long : (most full : ℕ) → 1 ≤ full → full ≤ most → most < 2 ^ 64 → Limits (record { low = full; top = most; mixed = false }) most full
 unfolding more_to
-limits-long most full h g l = (h, g, l, l, λ b m lb lm a. rw (le-ltb b full lb) lm)
+limits_long most full h g l = (h, g, l, l, λ b m lb lm a. rw (le-ltb b full lb) lm)
 
-pub limits-mixed : (most full : ℕ) → 1 ≤ most → most < 2 ^ 64 → Limits (record { low = 1; top = most; mixed = true }) most full
+pub limits_mixed : (most full : ℕ) → 1 ≤ most → most < 2 ^ 64 → Limits (record { low = 1; top = most; mixed = true }) most full
 unfolding more_to
-limits-mixed most full h l = (omega arith, h, l, l, λ b m lb lm a. go b m lm (a refl) (ltb b full) refl)
+limits_mixed most full h l = (omega arith, h, l, l, λ b m lb lm a. go b m lm (a refl) (ltb b full) refl)
   where
     go : (b m : ℕ) → m ≤ most → (b < full → m ≡ 0) → (t : Bool) → ltb b full ≡ t → m ≤ cond (ltb b full) 0 most
     go b m lm a true e = let z = a (ltb-true b full e) in rw e (omega (arith, z))
     go b m lm a false e = rw e lm
 
 -- a side whose places are used, whether in fours or too few for one, with nothing behind them
-pub side-fine : (room most full : ℕ) (xs : List ℕ) (at : ℕ) → get_or xs at 0 ≤ room
+pub side_fine_lem : (room most full : ℕ) (xs : List ℕ) (at : ℕ) → get_or xs at 0 ≤ room
     → ((k : ℕ) → k < get_or xs at 0 - few_of (get_or xs at 0) → entry_scan most full xs (at + 1 + k * 5) ≡ true)
     → each (λ (k : ℕ). entry_scan most full xs (at + 1 + k * 5)) (few_of (get_or xs at 0)) ≡ true
     → all_zero xs (at + 1 + get_or xs at 0 * 5) (100 - get_or xs at 0 * 5) && all_zero xs (at + side_size) side_spare ≡ true → side_scan room most full xs at ≡ true
 unfolding side_scan
-side-fine room most full xs at h A E z = rw (le-leb n room h, go (ltb n 4) refl, z)
+side_fine_lem room most full xs at h A E z = rw (le-leb n room h, go (ltb n 4) refl, z)
   where
     n : ℕ
     n = get_or xs at 0
@@ -295,9 +295,9 @@ side-fine room most full xs at h A E z = rw (le-leb n room h, go (ltb n 4) refl,
     f k = entry_scan most full xs (at + 1 + k * 5)
 
     go : (b : Bool) → ltb n 4 ≡ b → each f n ≡ true
-    go true e = rw (few-all n (ltb-true n 4 e)) at E
+    go true e = rw (few_all n (ltb-true n 4 e)) at E
     go false e =
-        let q = few-none n (ltb-false n 4 e) in
+        let q = few_none n (ltb-false n 4 e) in
         each_of f n (λ k l. A k (omega (arith, q, l)))
 
 -- nothing stands beside a short first word where what the code joins is 0
@@ -315,9 +315,9 @@ settles w most full marks xs from n s S L e = go (fits s.columns) (eqb s.rest 0)
     go false q f z e = λ j h l. absurd (omega (arith, e, h, l))
 
 -- two runs of sides, one behind the other
-pub sides-join : (most full marks : ℕ) (xs : List ℕ) (m n : ℕ) → Sides most full marks xs 0 m → Sides most full marks xs m n
+pub sides_join : (most full marks : ℕ) (xs : List ℕ) (m n : ℕ) → Sides most full marks xs 0 m → Sides most full marks xs m n
     → Sides most full marks xs 0 n
-sides-join most full marks xs m n A B j h l = go (ltb j m) refl
+sides_join most full marks xs m n A B j h l = go (ltb j m) refl
   where
     go : (b : Bool) → ltb j m ≡ b → side_scan (room_of marks (j / 2)) most full xs (160 + j * 128) ≡ true
     go true e = A j h (ltb-true j m e)

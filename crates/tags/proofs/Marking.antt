@@ -17,28 +17,28 @@ use Rattle.tags.proofs.Slots.{slot_same}
 
 -- ---- the last of some fields
 module _ (t : ℕ) (f : Field) where
-  pub stands-last : (e : List Field) → stands t (e ++ (f ∷ [])) ≡ stands t e || eqb f.tag t
+  pub stands_last : (e : List Field) → stands t (e ++ (f ∷ [])) ≡ stands t e || eqb f.tag t
   unfolding stands
-  stands-last [] = go (eqb f.tag t)
+  stands_last [] = go (eqb f.tag t)
     where
       go : (z : Bool) → z || false ≡ z
       go true = refl
       go false = refl
-  stands-last (g ∷ e) = go (eqb g.tag t) (stands-last e)
+  stands_last (g ∷ e) = go (eqb g.tag t) (stands_last e)
     where
       go : (z : Bool) → stands t (e ++ (f ∷ [])) ≡ stands t e || eqb f.tag t → z || stands t (e ++ (f ∷ [])) ≡ (z || stands t e) || eqb f.tag t
       go true i = refl
       go false i = i
 
-  lookup-other : (e : List Field) → eqb f.tag t ≡ false → lookup (e ++ (f ∷ [])) t ≡ lookup e t
+  lookup_other : (e : List Field) → eqb f.tag t ≡ false → lookup (e ++ (f ∷ [])) t ≡ lookup e t
   unfolding lookup
-  lookup-other [] q = rw q
-  lookup-other (g ∷ e) q = ap (λ (r : List ℕ). cond (eqb g.tag t) g.text r) (lookup-other e q)
+  lookup_other [] q = rw q
+  lookup_other (g ∷ e) q = ap (λ (r : List ℕ). cond (eqb g.tag t) g.text r) (lookup_other e q)
 
-  lookup-last : (e : List Field) → eqb f.tag t ≡ true → stands t e ≡ false → lookup (e ++ (f ∷ [])) t ≡ f.text
+  lookup_last : (e : List Field) → eqb f.tag t ≡ true → stands t e ≡ false → lookup (e ++ (f ∷ [])) t ≡ f.text
   unfolding lookup stands
-  lookup-last [] q n = rw q
-  lookup-last (g ∷ e) q n = go (eqb g.tag t) n (λ k. lookup-last e q k)
+  lookup_last [] q n = rw q
+  lookup_last (g ∷ e) q n = go (eqb g.tag t) n (λ k. lookup_last e q k)
     where
       go : (z : Bool) → z || stands t e ≡ false → (stands t e ≡ false → lookup (e ++ (f ∷ [])) t ≡ f.text)
           → cond z g.text (lookup (e ++ (f ∷ [])) t) ≡ f.text
@@ -50,9 +50,9 @@ no_text : (s : List ℕ) → text_at s 0 0 ≡ []
 unfolding text_at
 no_text s = rw (le-leb 0 (length s) (omega arith))
 
-pub none-held : (named : ℕ) (s : List ℕ) → named ≤ 21 → Holds named s no_marks []
+pub none_held : (named : ℕ) (s : List ℕ) → named ≤ 21 → Holds named s no_marks []
 unfolding marked lookup stands
-none-held named s n =
+none_held named s n =
     record {
       froms = refl;
       tos = refl;
@@ -75,16 +75,16 @@ module _ (named : ℕ) (s : List ℕ) (m : Marks) (e : List Field) (n : named �
       let j : slot_of t ≡ k = ap slot_of (sym p) ∙ sym slot in
       let n : stands t e ≡ false = h.seen t l ∙ rw (j, new (omega arith)) in (
         rw (j, get_or-set_same m.from k from 0 (omega (arith, h.froms)), get_or-set_same m.to k to 0 (omega (arith, h.tos)), le-leb from to (omega arith), le-leb to (length s) (omega arith))
-            (sym (lookup-last t f e q n)),
-        stands-last t f e ∙ rw (n, q, j, get_or-set_same m.to k to 0 (omega (arith, h.tos)), ne_eqb to 0 (λ z. omega arith)),
+            (sym (lookup_last t f e q n)),
+        stands_last t f e ∙ rw (n, q, j, get_or-set_same m.to k to 0 (omega (arith, h.tos)), ne_eqb to 0 (λ z. omega arith)),
       )
 
   there : (t : ℕ) → slot_of t < named → eqb tag t ≡ false → (marked s more t ≡ lookup (e ++ (f ∷ [])) t) × (stands t (e ++ (f ∷ [])) ≡ not (eqb (get_or more.to (slot_of t) 0) 0))
   unfolding marked
   there t l q =
       let j : slot_of t ≡ k → ⊥ = λ i. eqb-false tag t q (sym (slot_same t tag (omega arith) (i ∙ slot))) in (
-        rw (get_or-set_other m.from k (slot_of t) from 0 j, get_or-set_other m.to k (slot_of t) to 0 j) (h.text t l ∙ sym (lookup-other t f e q)),
-        stands-last t f e ∙ rw (q, get_or-set_other m.to k (slot_of t) to 0 j) (or_no (stands t e) ∙ h.seen t l),
+        rw (get_or-set_other m.from k (slot_of t) from 0 j, get_or-set_other m.to k (slot_of t) to 0 j) (h.text t l ∙ sym (lookup_other t f e q)),
+        stands_last t f e ∙ rw (q, get_or-set_other m.to k (slot_of t) to 0 j) (or_no (stands t e) ∙ h.seen t l),
       )
     where
       or_no : (z : Bool) → z || false ≡ z

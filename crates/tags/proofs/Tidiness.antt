@@ -12,8 +12,8 @@ use Rattle.chain.specs.Fields.{Field}
 use Rattle.tags.specs.Tags.{has, stands, tidy}
 use Rattle.tags.specs.Slots.{slot_of, below, between, strays, Holds}
 use Rattle.tags.specs.declared.Marks.{Marks}
-use Rattle.tags.proofs.Slots.{has-below, has-between}
-use Rattle.tags.proofs.Marking.{stands-last}
+use Rattle.tags.proofs.Slots.{has_below, has_between}
+use Rattle.tags.proofs.Marking.{stands_last}
 
 -- ---- one field after others
 module _ (named ours : List ℕ) where
@@ -21,9 +21,9 @@ module _ (named ours : List ℕ) where
   abbrev pub fits : List Field → Field → Bool
   fits e f = not (has f.tag named) || (has f.tag ours && not (stands f.tag e))
 
-  pub tidy-nil : tidy named ours [] ≡ true
+  pub tidy_nil : tidy named ours [] ≡ true
   unfolding tidy
-  tidy-nil = refl
+  tidy_nil = refl
 
   -- the first of a place
   pub tidy_one : (f : Field) → fits [] f ≡ true → tidy named ours (f ∷ []) ≡ true
@@ -36,15 +36,15 @@ module _ (named ours : List ℕ) where
   twice f (g ∷ e) l = rw (twice f e l) (or-true (eqb g.tag f.tag))
 
   -- a field that may not follow e
-  pub tidy-stray : (e : List Field) (f : Field) (l : List Field) → fits e f ≡ false → tidy named ours (e ++ (f ∷ l)) ≡ false
+  pub tidy_stray : (e : List Field) (f : Field) (l : List Field) → fits e f ≡ false → tidy named ours (e ++ (f ∷ l)) ≡ false
   unfolding tidy stands
-  tidy-stray [] f l h = go (has f.tag named) (has f.tag ours) h
+  tidy_stray [] f l h = go (has f.tag named) (has f.tag ours) h
     where
       go : (a b : Bool) → not a || (b && true) ≡ false → (not a || (b && not (stands f.tag l))) && tidy named ours l ≡ false
       go true true h = absurd (true≢false h)
       go true false h = refl
       go false b h = absurd (true≢false h)
-  tidy-stray (g ∷ e) f l h = go (eqb g.tag f.tag) refl h (λ k. tidy-stray e f l k)
+  tidy_stray (g ∷ e) f l h = go (eqb g.tag f.tag) refl h (λ k. tidy_stray e f l k)
     where
       go : (z : Bool) → eqb g.tag f.tag ≡ z → not (has f.tag named) || (has f.tag ours && not (z || stands f.tag e)) ≡ false
           → (not (has f.tag named) || (has f.tag ours && not (stands f.tag e)) ≡ false → tidy named ours (e ++ (f ∷ l)) ≡ false)
@@ -60,12 +60,12 @@ module _ (named ours : List ℕ) where
       go false p k i = rw (i k, and-false)
 
   -- a field that may
-  pub tidy-more : (e : List Field) (f : Field) → tidy named ours e ≡ true → fits e f ≡ true → tidy named ours (e ++ (f ∷ [])) ≡ true
+  pub tidy_more : (e : List Field) (f : Field) → tidy named ours e ≡ true → fits e f ≡ true → tidy named ours (e ++ (f ∷ [])) ≡ true
   unfolding tidy stands
-  tidy-more [] f h k = rw k
-  tidy-more (g ∷ e) f h k =
+  tidy_more [] f h k = rw k
+  tidy_more (g ∷ e) f h k =
       let d = both (not (has g.tag named) || (has g.tag ours && not (stands g.tag e))) (tidy named ours e) h in
-      go (eqb g.tag f.tag) refl k d.0 (λ i. tidy-more e f d.1 i)
+      go (eqb g.tag f.tag) refl k d.0 (λ i. tidy_more e f d.1 i)
     where
       go : (z : Bool) → eqb g.tag f.tag ≡ z → not (has f.tag named) || (has f.tag ours && not (z || stands f.tag e)) ≡ true
           → not (has g.tag named) || (has g.tag ours && not (stands g.tag e)) ≡ true
@@ -82,15 +82,15 @@ module _ (named ours : List ℕ) where
           free false b h = refl
       go false p k d i =
           let n : eqb f.tag g.tag ≡ false = ne_eqb f.tag g.tag (λ q. eqb-false g.tag f.tag p (sym q)) in
-          rw (stands-last g.tag f e, n, or_no (stands g.tag e), d) (i k)
+          rw (stands_last g.tag f e, n, or_no (stands g.tag e), d) (i k)
         where
           or_no : (z : Bool) → z || false ≡ z
           or_no true = refl
           or_no false = refl
 
 -- ---- the code's test
-not-below : (a b : ℕ) → leb b a ≡ not (ltb a b)
-not-below a b = go (ltb a b) refl
+not_below : (a b : ℕ) → leb b a ≡ not (ltb a b)
+not_below a b = go (ltb a b) refl
   where
     go : (z : Bool) → ltb a b ≡ z → leb b a ≡ not z
     go true p = lt-leb b a (ltb-true a b p)
@@ -103,8 +103,8 @@ outside false true false = refl
 outside false false c = refl
 
 module _ (s : List ℕ) (m : Marks) (e : List Field) (named low high : ℕ) (h : Holds named s m e) (n : named ≤ 21) (g : high ≤ 21) (f : Field) where
-  pub fits-test : fits (below named) (between low high) e f ≡ not (strays (slot_of f.tag) named low high (get_or m.to (slot_of f.tag) 0))
-  fits-test = rw (has-below f.tag named n, has-between f.tag low high g) (go (slot_of f.tag) refl (ltb (slot_of f.tag) named) refl)
+  pub fits_test : fits (below named) (between low high) e f ≡ not (strays (slot_of f.tag) named low high (get_or m.to (slot_of f.tag) 0))
+  fits_test = rw (has_below f.tag named n, has_between f.tag low high g) (go (slot_of f.tag) refl (ltb (slot_of f.tag) named) refl)
     where
       go : (k : ℕ) → slot_of f.tag ≡ k → (z : Bool) → ltb k named ≡ z
           → not z || ((leb low k && ltb k high) && not (stands f.tag e))
@@ -112,5 +112,5 @@ module _ (s : List ℕ) (m : Marks) (e : List Field) (named low high : ℕ) (h :
       go k q true p =
           let l : slot_of f.tag < named = omega (arith, ltb-true k named p) in
           let r : stands f.tag e ≡ not (eqb (get_or m.to k 0) 0) = rw q at (h.seen f.tag l) in
-          rw (not-below k low, not-below k high, r) (outside (ltb k low) (ltb k high) (not (eqb (get_or m.to k 0) 0)))
+          rw (not_below k low, not_below k high, r) (outside (ltb k low) (ltb k high) (not (eqb (get_or m.to k 0) 0)))
       go k q false p = refl

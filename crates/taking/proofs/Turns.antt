@@ -8,7 +8,7 @@ use Rattle.book.specs.declared.Book.{Book}
 use Rattle.book.specs.declared.Turn.{Turn}
 use Rattle.book.specs.Sides.{book_step}
 use Rattle.cells.specs.Cells.{tab}
-use Rattle.cells.proofs.Tables.{tab-turn}
+use Rattle.cells.proofs.Tables.{tab_turn}
 use Rattle.board.specs.Board.{Queued}
 use Rattle.taking.specs.Replays.{next, replay_b}
 use Rattle.terms.specs.Terms.{due}
@@ -16,12 +16,12 @@ use Rattle.terms.specs.Terms.{due}
 module _ (i S : ℕ) (f : ℕ → Queued) (q k : ℕ) (b : Book) (h : k < q) where
   pub passes : due i S (f k).update.who (f k).update.what (f k).number ≡ false → replay_b i S (drop (k + 1) (tab f q)) b ≡ replay_b i S (drop k (tab f q)) b
   unfolding replay_b
-  passes e = sym (rw (tab-turn f q k h, e))
+  passes e = sym (rw (tab_turn f q k h, e))
 
   applies : due i S (f k).update.who (f k).update.what (f k).number ≡ true
       → replay_b i S (drop k (tab f q)) b ≡ next (book_step b (f k).update) (replay_b i S (drop (k + 1) (tab f q)))
   unfolding replay_b
-  applies e = rw (tab-turn f q k h, e)
+  applies e = rw (tab_turn f q k h, e)
 
   module _ (e : due i S (f k).update.who (f k).update.what (f k).number ≡ true) (t : Turn) (w : t ≡ book_step b (f k).update) where
     pub goes_on_lem : t.reason ≡ 0 → replay_b i S (drop (k + 1) (tab f q)) t.book ≡ replay_b i S (drop k (tab f q)) b

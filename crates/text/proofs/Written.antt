@@ -13,65 +13,65 @@ use lib.Seq.{sets}
 use Rattle.digits.specs.Digits.{is_digit, all_digits, value, digits_of, whole_of}
 use Rattle.digits.specs.declared.Number.TheVariants.{Is, No}
 use Rattle.text.specs.Text.{fixed, width_to, width_of, decimal}
-use Rattle.text.proofs.Stores.{sets-append, set-sets-above}
+use Rattle.text.proofs.Stores.{sets_append, set_sets_above}
 
-pub length-fixed : (w n : ℕ) → length (fixed w n) ≡ w
+pub length_fixed : (w n : ℕ) → length (fixed w n) ≡ w
 unfolding fixed
-length-fixed zero n = refl
-length-fixed (suc w) n = rw length-append (omega (arith, length-fixed w (n / 10)))
+length_fixed zero n = refl
+length_fixed (suc w) n = rw length-append (omega (arith, length_fixed w (n / 10)))
 
-and-more : (s t u : Bool) → s && t ≡ true → (t ≡ true → u ≡ true) → s && u ≡ true
-and-more true t u q h = h q
-and-more false t u q h = q
+and_more : (s t u : Bool) → s && t ≡ true → (t ≡ true → u ≡ true) → s && u ≡ true
+and_more true t u q h = h q
+and_more false t u q h = q
 
 pub digits_append : (a b : List ℕ) → all_digits a ≡ true → all_digits b ≡ true → all_digits (a ++ b) ≡ true
 digits_append [] b h k = k
-digits_append (x ∷ a) b h k = and-more (is_digit x) (all_digits a) (all_digits (a ++ b)) h (λ e. digits_append a b e k)
+digits_append (x ∷ a) b h k = and_more (is_digit x) (all_digits a) (all_digits (a ++ b)) h (λ e. digits_append a b e k)
 
-a-digit : (d : ℕ) → d < 10 → is_digit (48 + d) ≡ true
-a-digit d h = simp (le-leb 48 (48 + d) (omega arith), le-leb (48 + d) 57 (omega arith))
+a_digit : (d : ℕ) → d < 10 → is_digit (48 + d) ≡ true
+a_digit d h = simp (le-leb 48 (48 + d) (omega arith), le-leb (48 + d) 57 (omega arith))
 
-pub digits-fixed : (w n : ℕ) → all_digits (fixed w n) ≡ true
+pub digits_fixed : (w n : ℕ) → all_digits (fixed w n) ≡ true
 unfolding fixed
-digits-fixed zero n = refl
-digits-fixed (suc w) n =
-    digits_append (fixed w (n / 10)) ((48 + n % 10) ∷ []) (digits-fixed w (n / 10)) (rw (a-digit (n % 10) (omega arith)))
+digits_fixed zero n = refl
+digits_fixed (suc w) n =
+    digits_append (fixed w (n / 10)) ((48 + n % 10) ∷ []) (digits_fixed w (n / 10)) (rw (a_digit (n % 10) (omega arith)))
 
-value-append : (v : ℕ) (a : List ℕ) (b : ℕ) → value v (a ++ (b ∷ [])) ≡ value v a * 10 + (b - 48)
-value-append v [] b = refl
-value-append v (x ∷ a) b = value-append (v * 10 + (x - 48)) a b
+value_append : (v : ℕ) (a : List ℕ) (b : ℕ) → value v (a ++ (b ∷ [])) ≡ value v a * 10 + (b - 48)
+value_append v [] b = refl
+value_append v (x ∷ a) b = value_append (v * 10 + (x - 48)) a b
 
-pub value-fixed : (w n : ℕ) → n < 10 ^ w → value 0 (fixed w n) ≡ n
+pub value_fixed : (w n : ℕ) → n < 10 ^ w → value 0 (fixed w n) ≡ n
 unfolding fixed
-value-fixed zero n h = omega arith
-value-fixed (suc w) n h =
+value_fixed zero n h = omega arith
+value_fixed (suc w) n h =
     let l : n < 10 ^ w * 10 = rw pow-suc at h in
-    rw (value-append 0 (fixed w (n / 10)) (48 + n % 10), value-fixed w (n / 10) (omega arith)) (omega arith)
+    rw (value_append 0 (fixed w (n / 10)) (48 + n % 10), value_fixed w (n / 10) (omega arith)) (omega arith)
 
 -- ---- the width
-pub width-pos : (k n : ℕ) → 1 ≤ width_to k n
+pub width_pos : (k n : ℕ) → 1 ≤ width_to k n
 unfolding width_to
-width-pos zero n = omega arith
-width-pos (suc k) n = go (leb (10 ^ suc k) n) (width-pos k n)
+width_pos zero n = omega arith
+width_pos (suc k) n = go (leb (10 ^ suc k) n) (width_pos k n)
   where
     go : (t : Bool) → 1 ≤ width_to k n → 1 ≤ cond t (suc (suc k)) (width_to k n)
     go true h = omega arith
     go false h = h
 
-pub width-lt : (k n : ℕ) → n < 10 ^ suc k → n < 10 ^ width_to k n
+pub width_lt : (k n : ℕ) → n < 10 ^ suc k → n < 10 ^ width_to k n
 unfolding width_to
-width-lt zero n h = h
-width-lt (suc k) n h = go (leb (10 ^ suc k) n) refl (λ l. width-lt k n l)
+width_lt zero n h = h
+width_lt (suc k) n h = go (leb (10 ^ suc k) n) refl (λ l. width_lt k n l)
   where
     go : (t : Bool) → leb (10 ^ suc k) n ≡ t → (n < 10 ^ suc k → n < 10 ^ width_to k n) → n < 10 ^ cond t (suc (suc k)) (width_to k n)
     go true e r = h
     go false e r = r (leb-false (10 ^ suc k) n e)
 
 -- what fits j digits has a width of at most j
-pub width-le : (k n j : ℕ) → 1 ≤ j → n < 10 ^ j → width_to k n ≤ j
+pub width_le : (k n j : ℕ) → 1 ≤ j → n < 10 ^ j → width_to k n ≤ j
 unfolding width_to
-width-le zero n j p h = p
-width-le (suc k) n j p h = go (leb (10 ^ suc k) n) (leb (suc (suc k)) j) refl (width-le k n j p h) refl
+width_le zero n j p h = p
+width_le (suc k) n j p h = go (leb (10 ^ suc k) n) (leb (suc (suc k)) j) refl (width_le k n j p h) refl
   where
     go : (t u : Bool) → leb (10 ^ suc k) n ≡ t → width_to k n ≤ j → leb (suc (suc k)) j ≡ u → cond t (suc (suc k)) (width_to k n) ≤ j
     go true true e r f = leb-true (suc (suc k)) j f
@@ -83,24 +83,24 @@ width-le (suc k) n j p h = go (leb (10 ^ suc k) n) (leb (suc (suc k)) j) refl (w
     go false u e r f = r
 
 -- a width above 1 is that of no smaller number
-pub width-lead : (k n m : ℕ) → width_to k n ≡ suc (suc m) → 10 ^ suc m ≤ n
+pub width_lead : (k n m : ℕ) → width_to k n ≡ suc (suc m) → 10 ^ suc m ≤ n
 unfolding width_to
-width-lead zero n m q = absurd (omega arith)
-width-lead (suc k) n m q = go (leb (10 ^ suc k) n) refl (λ r. width-lead k n m r) q
+width_lead zero n m q = absurd (omega arith)
+width_lead (suc k) n m q = go (leb (10 ^ suc k) n) refl (λ r. width_lead k n m r) q
   where
     go : (t : Bool) → leb (10 ^ suc k) n ≡ t → (width_to k n ≡ suc (suc m) → 10 ^ suc m ≤ n) → cond t (suc (suc k)) (width_to k n) ≡ suc (suc m) → 10 ^ suc m ≤ n
     go true e g r = let z : k ≡ m = omega arith in rw (← z) (leb-true (10 ^ suc k) n e)
     go false e g r = g r
 
 -- a number of more than w digits
-pub width-more : (k n w : ℕ) → n < 10 ^ suc k → 10 ^ w ≤ n → w < width_to k n
-width-more k n w h l = go (ltb w (width_to k n)) refl
+pub width_more : (k n w : ℕ) → n < 10 ^ suc k → 10 ^ w ≤ n → w < width_to k n
+width_more k n w h l = go (ltb w (width_to k n)) refl
   where
     go : (t : Bool) → ltb w (width_to k n) ≡ t → w < width_to k n
     go true e = ltb-true w (width_to k n) e
     go false e =
         let b : 10 ^ width_to k n ≤ 10 ^ w = pow-le-pow_right (omega arith) (ltb-false w (width_to k n) e) in
-        absurd (omega (arith, width-lt k n h))
+        absurd (omega (arith, width_lt k n h))
 
 -- ---- no leading zero
 pub lead : (w n : ℕ) → 10 ^ w ≤ n → n < 10 ^ suc w → 48 < get_or (fixed (suc w) n) 0 0
@@ -112,51 +112,51 @@ lead (suc w) n h l =
     rw (get_or-append (fixed w (n / 10 / 10) ++ ((48 + n / 10 % 10) ∷ [])) ((48 + n % 10) ∷ []) 0 0 (rw length-append (omega arith)))
     (lead w (n / 10) (omega arith) (omega arith))
 
-pub length-decimal : (n : ℕ) → length (decimal n) ≡ width_of n
+pub length_decimal : (n : ℕ) → length (decimal n) ≡ width_of n
 unfolding decimal
-length-decimal n = length-fixed (width_of n) n
+length_decimal n = length_fixed (width_of n) n
 
 pub digits_decimal : (n : ℕ) → all_digits (decimal n) ≡ true
 unfolding decimal
-digits_decimal n = digits-fixed (width_of n) n
+digits_decimal n = digits_fixed (width_of n) n
 
-pub read-fixed : (w n : ℕ) → 1 ≤ w → w ≤ 18 → n < 10 ^ w → digits_of w (fixed w n) ≡ Is n
+pub read_fixed : (w n : ℕ) → 1 ≤ w → w ≤ 18 → n < 10 ^ w → digits_of w (fixed w n) ≡ Is n
 unfolding digits_of
-read-fixed w n p q h = simp (length-fixed, le-leb 1 w p, le-leb w w (omega arith), le-leb w 18 q, digits-fixed, value-fixed w n h)
+read_fixed w n p q h = simp (length_fixed, le-leb 1 w p, le-leb w w (omega arith), le-leb w 18 q, digits_fixed, value_fixed w n h)
 
 module _ (w n : ℕ) (p : 1 ≤ w) (high : w ≤ 18) (fits : n < 10 ^ w) where
   small : n < 10 ^ 18
   small = let a : 10 ^ w ≤ 10 ^ 18 = pow-le-pow_right (omega arith) high in omega arith
 
-  pub width-in : width_of n ≤ w
+  pub width_in : width_of n ≤ w
   unfolding width_of
-  width-in = width-le 17 n w p fits
+  width_in = width_le 17 n w p fits
 
   -- a number written is read back
-  pub digits-back : digits_of w (decimal n) ≡ Is n
+  pub digits_back : digits_of w (decimal n) ≡ Is n
   unfolding digits_of decimal width_of
-  digits-back =
-      simp (length-fixed, le-leb 1 (width_to 17 n) (width-pos 17 n), le-leb (width_to 17 n) w (width-le 17 n w p fits), le-leb w 18 high, digits-fixed, value-fixed (width_to 17 n) n (width-lt 17 n small))
+  digits_back =
+      simp (length_fixed, le-leb 1 (width_to 17 n) (width_pos 17 n), le-leb (width_to 17 n) w (width_le 17 n w p fits), le-leb w 18 high, digits_fixed, value_fixed (width_to 17 n) n (width_lt 17 n small))
 
   pub whole_back : whole_of w (decimal n) ≡ Is n
   unfolding whole_of width_of decimal
   whole_back = go (width_to 17 n) refl
     where
       go : (x : ℕ) → width_to 17 n ≡ x → cond (leb 2 (length (decimal n)) && eqb (get_or (decimal n) 0 0) 48) No (digits_of w (decimal n)) ≡ Is n
-      go zero q = absurd (omega (arith, width-pos 17 n))
-      go (suc zero) q = simp (length-fixed, q, digits-one)
+      go zero q = absurd (omega (arith, width_pos 17 n))
+      go (suc zero) q = simp (length_fixed, q, digits_one)
         where
-          digits-one : digits_of w (fixed 1 n) ≡ Is n
-          digits-one = rw q at digits-back
+          digits_one : digits_of w (fixed 1 n) ≡ Is n
+          digits_one = rw q at digits_back
       go (suc (suc m)) q =
-          let a : 10 ^ suc m ≤ n = width-lead 17 n m q in
-          let b : n < 10 ^ suc (suc m) = rw q at (width-lt 17 n small) in
+          let a : 10 ^ suc m ≤ n = width_lead 17 n m q in
+          let b : n < 10 ^ suc (suc m) = rw q at (width_lt 17 n small) in
           let e : eqb (get_or (fixed (width_to 17 n) n) 0 0) 48 ≡ false = rw q (ne_eqb (get_or (fixed (suc (suc m)) n) 0 0) 48 (λ z. omega (arith, lead (suc m) n a b))) in
-          let f : leb 2 (length (fixed (width_to 17 n) n)) ≡ true = rw (length-fixed, q) (le-leb 2 (suc (suc m)) (omega arith)) in
-          rw (f, e) digits-back
+          let f : leb 2 (length (fixed (width_to 17 n) n)) ≡ true = rw (length_fixed, q) (le-leb 2 (suc (suc m)) (omega arith)) in
+          rw (f, e) digits_back
 
 -- ---- a turn of the loop that writes digits from the back
-pub back-turn : (l : List ℕ) (at i m d : ℕ) → d ≡ 48 + m % 10 → sets (set l (at + i) d) at (fixed i (m / 10)) ≡ sets l at (fixed (i + 1) m)
+pub back_turn : (l : List ℕ) (at i m d : ℕ) → d ≡ 48 + m % 10 → sets (set l (at + i) d) at (fixed i (m / 10)) ≡ sets l at (fixed (i + 1) m)
 unfolding fixed
-back-turn l at i m d e =
-    rw (add-one i, set-sets-above l (at + i) d at (fixed i (m / 10)) (omega (arith, length-fixed i (m / 10))), sets-append l at (fixed i (m / 10)) ((48 + m % 10) ∷ []), length-fixed i (m / 10), e)
+back_turn l at i m d e =
+    rw (add-one i, set_sets_above l (at + i) d at (fixed i (m / 10)) (omega (arith, length_fixed i (m / 10))), sets_append l at (fixed i (m / 10)) ((48 + m % 10) ∷ []), length_fixed i (m / 10), e)

@@ -7,12 +7,12 @@ use Rattle.book.specs.declared.Entry.{Entry}
 use Rattle.values.specs.Values.{valued}
 use Rattle.values.specs.declared.Valued.{Valued}
 
-pub no-values : (o : Option Entry) → valued o ≡ Valued.No → o ≡ none
+pub no_values : (o : Option Entry) → valued o ≡ Valued.No → o ≡ none
 unfolding valued
-no-values none h = refl
-no-values (some e) h = let z : ◌≡◌ {A = ℕ} 0 1 = cc in absurd (omega arith)
+no_values none h = refl
+no_values (some e) h = let z : ◌≡◌ {A = ℕ} 0 1 = cc in absurd (omega arith)
 
-pub are-values : (o : Option Entry) {e : Entry} → valued o ≡ Valued.Is e → o ≡ some e
+pub are_values : (o : Option Entry) {e : Entry} → valued o ≡ Valued.Is e → o ≡ some e
 unfolding valued
-are-values none h = let z : ◌≡◌ {A = ℕ} 0 1 = cc in absurd (omega arith)
-are-values (some e) h = cc
+are_values none h = let z : ◌≡◌ {A = ℕ} 0 1 = cc in absurd (omega arith)
+are_values (some e) h = cc

@@ -9,38 +9,38 @@ use lib.ListN.{length, get_or}
 use Rattle.digits.specs.declared.Number.TheVariants.{Is, No}
 use Rattle.frame.specs.Frames.{equal}
 use Rattle.moment.specs.Moments.{date_of, time_of, span, moments}
-use Rattle.moment.proofs.Bounds.{date-lt, time-lt}
+use Rattle.moment.proofs.Bounds.{date_lt, time_lt}
 use Rattle.values.specs.Values.{bvmf, sort_of}
 
 -- ---- 269
-pub no-sort : (t : List ℕ) → length t ≡ 0 → sort_of t ≡ No
+pub no_sort : (t : List ℕ) → length t ≡ 0 → sort_of t ≡ No
 unfolding sort_of
-no-sort [] h = refl
-no-sort (b ∷ t) h = absurd (omega arith)
+no_sort [] h = refl
+no_sort (b ∷ t) h = absurd (omega arith)
 
-pub long-sort : (t : List ℕ) → (length t ≡ 0 → ⊥) → (length t ≡ 1 → ⊥) → sort_of t ≡ Is 3
+pub long_sort : (t : List ℕ) → (length t ≡ 0 → ⊥) → (length t ≡ 1 → ⊥) → sort_of t ≡ Is 3
 unfolding sort_of
-long-sort [] h k = absurd (h refl)
-long-sort (b ∷ []) h k = absurd (k refl)
-long-sort (b ∷ c ∷ t) h k = refl
+long_sort [] h k = absurd (h refl)
+long_sort (b ∷ []) h k = absurd (k refl)
+long_sort (b ∷ c ∷ t) h k = refl
 
-pub one-sort : (t : List ℕ) → length t ≡ 1 → sort_of t ≡ Is (cond (eqb (get_or t 0 0) 48) 0 (cond (eqb (get_or t 0 0) 49) 1 (cond (eqb (get_or t 0 0) 74) 2 3)))
+pub one_sort : (t : List ℕ) → length t ≡ 1 → sort_of t ≡ Is (cond (eqb (get_or t 0 0) 48) 0 (cond (eqb (get_or t 0 0) 49) 1 (cond (eqb (get_or t 0 0) 74) 2 3)))
 unfolding sort_of
-one-sort [] h = absurd (omega arith)
-one-sort (b ∷ []) h = refl
-one-sort (b ∷ c ∷ t) h = absurd (omega arith)
+one_sort [] h = absurd (omega arith)
+one_sort (b ∷ []) h = refl
+one_sort (b ∷ c ∷ t) h = absurd (omega arith)
 
 -- ---- 207
-pub no-market : (t : List ℕ) → length t ≡ 0 → bvmf t ≡ true
+pub no_market : (t : List ℕ) → length t ≡ 0 → bvmf t ≡ true
 unfolding bvmf
-no-market [] h = refl
-no-market (b ∷ t) h = absurd (omega arith)
+no_market [] h = refl
+no_market (b ∷ t) h = absurd (omega arith)
 
-pub some-market : (t : List ℕ) → (length t ≡ 0 → ⊥) → bvmf t ≡ equal t (66 ∷ 86 ∷ 77 ∷ 70 ∷ [])
+pub some_market : (t : List ℕ) → (length t ≡ 0 → ⊥) → bvmf t ≡ equal t (66 ∷ 86 ∷ 77 ∷ 70 ∷ [])
 unfolding bvmf
-some-market [] h = absurd (h refl)
-some-market (b ∷ t) h = refl
+some_market [] h = absurd (h refl)
+some_market (b ∷ t) h = refl
 
 -- ---- 272 and 273
-pub moment-fits : (d t : List ℕ) {day time : ℕ} → date_of d ≡ Is day → time_of t ≡ Is time → day * span + time < moments
-moment-fits d t p q = omega (arith, date-lt d p, time-lt t q)
+pub moment_fits : (d t : List ℕ) {day time : ℕ} → date_of d ≡ Is day → time_of t ≡ Is time → day * span + time < moments
+moment_fits d t p q = omega (arith, date_lt d p, time_lt t q)

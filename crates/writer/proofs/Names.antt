@@ -16,10 +16,10 @@ left : (s : Bool) (a b : ℕ) → cond s (Is a b) No ≡ No → s ≡ false
 left true a b e = let z : ◌≡◌ {A = ℕ} 0 1 = cc in absurd (omega arith)
 left false a b e = refl
 
-pub an-id : (t : List ℕ) {a b : ℕ} → id_of t ≡ Is a b → is_id t ≡ true
+pub an_id : (t : List ℕ) {a b : ℕ} → id_of t ≡ Is a b → is_id t ≡ true
 unfolding id_of
-an-id t e = chosen (is_id t) _ e
+an_id t e = chosen (is_id t) _ e
 
-pub no-id : (t : List ℕ) → id_of t ≡ No → is_id t ≡ false
+pub no_id : (t : List ℕ) → id_of t ≡ No → is_id t ≡ false
 unfolding id_of
-no-id t e = left (is_id t) _ _ e
+no_id t e = left (is_id t) _ _ e

@@ -3,7 +3,7 @@ use mathlib.Core.Path.{◌≡◌, ap, ◌∙◌}
 use mir.Syntax.{w64}
 use mir.Facts.{to_z-of_z}
 use Rattle.ask.specs.Ask.{bits_of}
-use Rattle.ask.proofs.Words.{entry-is}
+use Rattle.ask.proofs.Words.{entry_is}
 use native.Mathlib.Omega.{arith}
 use lib.ListN.{length-set}
 use Rattle.ask.proofs.put_entry.Goals as goal
@@ -27,4 +27,4 @@ pub returns : goal.returns
 returns c =
     let x = c.args in
     let b : c.bits.result ≡ bits_of x.e.price = c.bits.ensures ∙ ap bits_of (to_z-of_z {w = w64} (record { sfits = omega arith })) in
-    c.put_moment.ensures ∙ rw (c.put_by.ensures, b) (entry-is x.out.now x.at x.depth x.e)
+    c.put_moment.ensures ∙ rw (c.put_by.ensures, b) (entry_is x.out.now x.at x.depth x.e)

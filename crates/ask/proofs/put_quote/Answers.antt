@@ -2,7 +2,7 @@
 use mathlib.Core.Path.{◌∙◌}
 use native.Mathlib.Omega.{arith}
 use lib.ListN.{length-set}
-use Rattle.ask.proofs.Words.{quote-is}
+use Rattle.ask.proofs.Words.{quote_is}
 use Rattle.ask.proofs.put_quote.Goals as goal
 
 pub put_moment-requires : goal.put_moment-requires
@@ -20,4 +20,4 @@ shape_of-out c = c.put_top-2.auto.out ∙ c.put_top.auto.out ∙ c.put_moment.au
 pub returns : goal.returns
 returns c =
     let x = c.args in
-    c.put_top-2.ensures ∙ rw (c.put_top.ensures, c.put_moment.ensures) (quote-is x.out.now x.depth x.q)
+    c.put_top-2.ensures ∙ rw (c.put_top.ensures, c.put_moment.ensures) (quote_is x.out.now x.depth x.q)

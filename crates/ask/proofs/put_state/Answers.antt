@@ -6,7 +6,7 @@ use lib.ListN.{length-set}
 use lib.Seq.{sets}
 use Rattle.heading.specs.Marks.{marked}
 use Rattle.store.specs.Meaning.{st}
-use Rattle.ask.proofs.States.{state-is}
+use Rattle.ask.proofs.States.{state_is}
 use Rattle.ask.proofs.put_state.Goals as goal
 
 pub bounds-out-1 : goal.bounds-out-1
@@ -24,4 +24,4 @@ returns c =
     let p = c.requires in
     let e : c.one_if.result ≡ cond (marked x.h.marks x.i) 1 0 =
     c.one_if.ensures ∙ ap (λ (t : Bool). cond t 1 0) c.waits.ensures in
-    rw e (sym (ap (sets x.out.now 0) (state-is (st x.h x.store.now) x.i p.0 p.1)))
+    rw e (sym (ap (sets x.out.now 0) (state_is (st x.h x.store.now) x.i p.0 p.1)))

@@ -7,7 +7,7 @@ use Rattle.ask.specs.Ask.{quote_number}
 use Rattle.ask.specs.Fine.{FineQuoted}
 use Rattle.sound.proofs.Readers.{formed, board, marks}
 use Rattle.ask.proofs.Facts.{ready}
-use Rattle.ask.proofs.Quoting.{quoted-fine, room_by}
+use Rattle.ask.proofs.Quoting.{quoted_fine, room_by}
 use Rattle.ask.proofs.quote_into.Goals as goal
 
 pub load_heading-h-requires : goal.load_heading-h-requires
@@ -27,7 +27,7 @@ tell-requires c =
     let s = c.requires.0 in
     let e : c.quote_for-q.result ≡ quote_of x.id x.time.now x.limit (board_at x.store.now) =
     c.quote_for-q.ensures ∙ ap (λ (h : Heading). quote_of x.id x.time.now x.limit (board_of h x.store.now)) c.load_heading-h.ensures in
-    (c.requires.1, subst FineQuoted (sym e) (quoted-fine (board_at x.store.now) (board x.store.now s) x.id x.time.now x.limit))
+    (c.requires.1, subst FineQuoted (sym e) (quoted_fine (board_at x.store.now) (board x.store.now s) x.id x.time.now x.limit))
 
 pub returns : goal.returns
 unfolding board_of

@@ -5,9 +5,9 @@ use lib.ListN.{length}
 use Rattle.board.specs.Board.{look}
 use Rattle.store.specs.Meaning.{st, board_at, loaded}
 use Rattle.store.specs.Canon.{Formed}
-use Rattle.store.proofs.Decode.{insts-length}
+use Rattle.store.proofs.Decode.{insts_length}
 use Rattle.sound.proofs.Readers.{formed, marks}
-use Rattle.ask.proofs.States.{unsound, short, no-id, not-followed, stated}
+use Rattle.ask.proofs.States.{unsound, short, no_id, not_followed, stated}
 use Rattle.ask.proofs.state.Goals as goal
 
 pub returns-then-not-sound : goal.returns-then-not-sound
@@ -23,7 +23,7 @@ returns-then-out-lt-STATE c =
 pub returns-then-not-is_id : goal.returns-then-not-is_id
 returns-then-not-is_id c =
     let x = c.args in
-    no-id x.id x.out.now x.store.now (sym c.sound.ensures ∙ c.if-not-sound.false) c.if-out-lt-STATE.false
+    no_id x.id x.out.now x.store.now (sym c.sound.ensures ∙ c.if-not-sound.false) c.if-out-lt-STATE.false
     (sym c.is_id.ensures ∙ c.if-not-is_id.true)
 
 pub load_heading-h-requires : goal.load_heading-h-requires
@@ -45,9 +45,9 @@ returns-then-h-i c =
     let s = sym c.sound.ensures ∙ c.if-not-sound.false in
     let h = c.load_heading-h.ensures in
     let e : c.find-i.result ≡ look x.id (board_at x.store.now).insts = rw h at c.find-i.ensures.0 in
-    let n = insts-length (loaded x.store.now) in
+    let n = insts_length (loaded x.store.now) in
     let k : length (board_at x.store.now).insts ≤ look x.id (board_at x.store.now).insts = rw (n, ← e) (rw h at c.if-h-i.true) in
-    not-followed x.id x.out.now x.store.now s c.if-out-lt-STATE.false (sym c.is_id.ensures ∙ c.if-not-is_id.false) k
+    not_followed x.id x.out.now x.store.now s c.if-out-lt-STATE.false (sym c.is_id.ensures ∙ c.if-not-is_id.false) k
 
 pub put_state-requires : goal.put_state-requires
 put_state-requires c =
@@ -61,7 +61,7 @@ returns c =
     let s = sym c.sound.ensures ∙ c.if-not-sound.false in
     let h = c.load_heading-h.ensures in
     let e : c.find-i.result ≡ look x.id (board_at x.store.now).insts = rw h at c.find-i.ensures.0 in
-    let n = insts-length (loaded x.store.now) in
+    let n = insts_length (loaded x.store.now) in
     let k : look x.id (board_at x.store.now).insts < length (board_at x.store.now).insts = rw (n, ← e) (rw h at c.if-h-i.false) in
     let t = stated x.id x.out.now x.store.now s c.if-out-lt-STATE.false (sym c.is_id.ensures ∙ c.if-not-is_id.false) k in
     record { answer = t.answer; out = c.put_state.ensures ∙ rw (h, e) t.out }

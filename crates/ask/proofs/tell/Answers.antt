@@ -1,7 +1,7 @@
 -- `tell` meets its contract: a quote is written, a refusal writes nothing.
 use mathlib.Core.Path.{sym, ap, ◌∙◌, subst}
 use Rattle.quote.specs.declared.Quoted.{Quoted}
-use Rattle.quote.proofs.Refused.{refused-number}
+use Rattle.quote.proofs.Refused.{refused_number}
 use Rattle.ask.specs.Ask.{room_after, quote_number, quote_values}
 use Rattle.ask.specs.Fine.{FineQuoted}
 use Rattle.ask.proofs.Quoting.{stays}
@@ -12,7 +12,7 @@ returns-in_default c =
     let x = c.args in
     record {
       value = c.number.ensures;
-      out_after = stays x.depth _ x.q x.out.now c.number.ensures (refused-number x.q c.in_default.not-Is);
+      out_after = stays x.depth _ x.q x.out.now c.number.ensures (refused_number x.q c.in_default.not-Is);
     }
 
 pub put_quote-requires : goal.put_quote-requires

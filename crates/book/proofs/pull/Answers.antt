@@ -5,7 +5,7 @@ use lib.ListN.{get_or, length-set, get_or-eq_default}
 use native.Mathlib.Omega.{arith}
 use Rattle.book.specs.Sides.{no_entry}
 use Rattle.book.specs.Rules.{most_places}
-use Rattle.book.proofs.Turns.{pull-turn, pull-end}
+use Rattle.book.proofs.Turns.{pull_turn, pull_end}
 use Rattle.book.proofs.pull.Goals as goal
 use Rattle.book.proofs.pull.Goals.{then-count-i, else-count-i}
 
@@ -19,9 +19,9 @@ loop-i-preserved c =
       | then-count-i w ↦ w.t-is
       | else-count-i w ↦ w.t-is ∙ c.no_entry-t.ensures ∙ sym (get_or-eq_default l.b no_entry (omega arith))
     ] in
-    (simp length-set l.invariant.0, rw t (pull-turn most_places l.b l.i _ (omega arith)) ∙ l.invariant.1)
+    (simp length-set l.invariant.0, rw t (pull_turn most_places l.b l.i _ (omega arith)) ∙ l.invariant.1)
 
 pub returns : goal.returns
 returns c =
     let l = c.loop-i in
-    sym (pull-end most_places l.b l.i _ l.invariant.0 (omega arith)) ∙ l.invariant.1
+    sym (pull_end most_places l.b l.i _ l.invariant.0 (omega arith)) ∙ l.invariant.1

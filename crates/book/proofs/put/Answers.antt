@@ -1,7 +1,7 @@
 -- `put` meets its contract, within the most_places places and past them.
 use native.Mathlib.Omega.{arith}
 use Rattle.book.specs.Rules.{most_places}
-use Rattle.book.proofs.Turns.{put_in, put-out}
+use Rattle.book.proofs.Turns.{put_in, put_out}
 use Rattle.book.proofs.put.Goals as goal
 
 pub returns-then-at-lt-PLACES : goal.returns-then-at-lt-PLACES
@@ -12,4 +12,4 @@ returns-then-at-lt-PLACES c =
 pub returns-else-at-lt-PLACES : goal.returns-else-at-lt-PLACES
 returns-else-at-lt-PLACES c =
     let x = c.args in
-    put-out most_places x.a x.at x.e (omega arith) (omega arith)
+    put_out most_places x.a x.at x.e (omega arith) (omega arith)

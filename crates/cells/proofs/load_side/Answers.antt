@@ -1,5 +1,5 @@
 -- `load_side` meets its contract: the loop has filled the first i places.
-use Rattle.cells.proofs.Tables.{fill-turn}
+use Rattle.cells.proofs.Tables.{fill_turn}
 use Rattle.cells.specs.Cells.{tab, entry_at}
 use Rattle.book.specs.declared.Entry.{Entry}
 use lib.Seq.{take_all}
@@ -17,7 +17,7 @@ pub loop-i-preserved : goal.loop-i-preserved
 loop-i-preserved c =
     let l = c.loop-i in
     let xs = c.args.store.now in
-    (omega arith, omega arith, fill-turn _ l.places l.i _ (omega arith) l.invariant.2 (c.load_entry.ensures ∙ ap (entry_at xs) l.invariant.1), simp length-set l.invariant.3)
+    (omega arith, omega arith, fill_turn _ l.places l.i _ (omega arith) l.invariant.2 (c.load_entry.ensures ∙ ap (entry_at xs) l.invariant.1), simp length-set l.invariant.3)
 
 pub returns : goal.returns
 returns c =

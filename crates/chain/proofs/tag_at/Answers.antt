@@ -2,7 +2,7 @@
 use Prim.Native.Nat.{◌-◌}
 use native.Mathlib.Omega.{arith}
 use Rattle.digits.proofs.Width.{small}
-use Rattle.chain.proofs.Tagging.{starts, ends, here, at_zero, at-leading, at_tag, no_digit, too_long, goes_on_lem}
+use Rattle.chain.proofs.Tagging.{starts, ends, here, at_zero, at_leading, at_tag, no_digit, too_long, goes_on_lem}
 use Rattle.chain.proofs.tag_at.Goals as goal
 
 pub loop-i-init : goal.loop-i-init
@@ -18,7 +18,7 @@ pub bounds-s-at : goal.bounds-s-at
 bounds-s-at c = omega (arith, c.loop-i.invariant.after)
 
 pub returns-then-s-at-eq48 : goal.returns-then-s-at-eq48
-returns-then-s-at-eq48 c = at-leading _ _ _ _ c.loop-i.invariant c.loop-i-test.true c.if-b-ne-EQUALS.false c.if-v-eq0.false c.if-s-at-eq48.true
+returns-then-s-at-eq48 c = at_leading _ _ _ _ c.loop-i.invariant c.loop-i-test.true c.if-b-ne-EQUALS.false c.if-v-eq0.false c.if-s-at-eq48.true
 
 pub returns-then-d-gt9 : goal.returns-then-d-gt9
 returns-then-d-gt9 c =

@@ -4,18 +4,18 @@ use Rattle.cells.specs.Runs.{updates_in}
 use Rattle.message.specs.declared.Verdict.{Verdict}
 use Rattle.message.specs.Message.{said_by}
 use Rattle.channel.specs.Feeds.{feed_s}
-use Rattle.channel.proofs.Board.{feeds, number-feeds, snapshot-feeds}
+use Rattle.channel.proofs.Board.{feeds, number_feeds, snapshot_feeds}
 use Rattle.channel.proofs.feed_read.Goals as goal
 
 pub returns-in-Numbered : goal.returns-in-Numbered
 returns-in-Numbered c =
     let aims = c.aim.ensures in
-    record { feeds = number-feeds (ap (λ (v : Verdict). said_by v c.args.r (updates_in c.args.run.now c.args.r.count)) c.in-Numbered.is) c.requires.0 aims.entries c.number.ensures; aims = aims }
+    record { feeds = number_feeds (ap (λ (v : Verdict). said_by v c.args.r (updates_in c.args.run.now c.args.r.count)) c.in-Numbered.is) c.requires.0 aims.entries c.number.ensures; aims = aims }
 
 pub returns-in-Snapshot : goal.returns-in-Snapshot
 returns-in-Snapshot c =
     let aims = c.aim.ensures in
-    record { feeds = snapshot-feeds (ap (λ (v : Verdict). said_by v c.args.r (updates_in c.args.run.now c.args.r.count)) c.in-Snapshot.is) c.requires.0 aims.entries c.snapshot.ensures; aims = aims }
+    record { feeds = snapshot_feeds (ap (λ (v : Verdict). said_by v c.args.r (updates_in c.args.run.now c.args.r.count)) c.in-Snapshot.is) c.requires.0 aims.entries c.snapshot.ensures; aims = aims }
 
 pub returns-in-Refused : goal.returns-in-Refused
 unfolding feed_s

@@ -1,8 +1,8 @@
 -- `count_in` meets its contract: tests in the order of its definition.
-use Rattle.count.proofs.Board.{counted-formed}
+use Rattle.count.proofs.Board.{counted_formed}
 use Rattle.count.specs.Counts.{counted_s, free_s, count_s}
 use Rattle.deliver.specs.Gives.{give_all_s}
-use Rattle.queue.proofs.Joining.{join-formed}
+use Rattle.queue.proofs.Joining.{join_formed}
 use Rattle.queue.specs.Joins.{over_s, join_s}
 use Rattle.store.specs.Answers.{fed}
 use Rattle.store.specs.Meaning.{State, st}
@@ -16,7 +16,7 @@ use Rattle.count.proofs.count_in.Goals as goal
 pub give_all-d-requires : goal.give_all-d-requires
 give_all-d-requires c =
     let a = c.args in
-    (rw c.count-g.ensures (counted-formed a.n a.heard (st a.h a.store.now) c.requires.0), c.requires.1)
+    (rw c.count-g.ensures (counted_formed a.n a.heard (st a.h a.store.now) c.requires.0), c.requires.1)
 
 pub returns-then-h-eq0 : goal.returns-then-h-eq0
 unfolding count_s
@@ -31,13 +31,13 @@ returns-then-h-eq0 c =
 pub join-j-requires : goal.join-j-requires
 join-j-requires c =
     let a = c.args in
-    (rw c.count-g.ensures (counted-formed a.n a.heard (st a.h a.store.now) c.requires.0), c.requires.1)
+    (rw c.count-g.ensures (counted_formed a.n a.heard (st a.h a.store.now) c.requires.0), c.requires.1)
 
 pub give_all-d-requires-2 : goal.give_all-d-requires-2
 give_all-d-requires-2 c =
     let a = c.args in
-    let f = counted-formed a.n a.heard (st a.h a.store.now) c.requires.0 in
-    (rw (c.join-j.ensures.state, c.count-g.ensures) (join-formed a.n (updates_in a.run.now a.count) _ f), c.requires.1)
+    let f = counted_formed a.n a.heard (st a.h a.store.now) c.requires.0 in
+    (rw (c.join-j.ensures.state, c.count-g.ensures) (join_formed a.n (updates_in a.run.now a.count) _ f), c.requires.1)
 
 pub returns-then-j : goal.returns-then-j
 unfolding count_s

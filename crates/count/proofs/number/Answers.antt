@@ -1,6 +1,6 @@
 -- `number` meets its contract: tests in the order of its definition.
 use Rattle.count.specs.Counts.{count_s, number_s}
-use Rattle.store.proofs.Cleared.{gap-canon}
+use Rattle.store.proofs.Cleared.{gap_canon}
 use Rattle.store.specs.Meaning.{st}
 use Rattle.cells.specs.Runs.{updates_in}
 use borrow.Author.Tests.{le-leb, lt-leb}
@@ -22,7 +22,7 @@ returns-then-n-h-2 c =
 pub count_in-requires-2 : goal.count_in-requires-2
 count_in-requires-2 c =
     let a = c.args in
-    (rw c.gap-g.ensures (gap-canon a.n (st a.h a.store.now) c.requires.0).formed, c.requires.1)
+    (rw c.gap-g.ensures (gap_canon a.n (st a.h a.store.now) c.requires.0).formed, c.requires.1)
 
 pub returns : goal.returns
 unfolding number_s

@@ -1,8 +1,8 @@
 -- `give_all` meets its contract: what is left to give, from here on, leaves the same.
-use Rattle.deliver.proofs.Giving.{give-formed}
+use Rattle.deliver.proofs.Giving.{give_formed}
 use Rattle.deliver.specs.Gives.{give_s, give_all_s}
 use Rattle.store.specs.Meaning.{st}
-use Rattle.cells.proofs.Tables.{tab-turn, tab-end}
+use Rattle.cells.proofs.Tables.{tab_turn, tab_end}
 use Rattle.cells.specs.Cells.{tab, update_at}
 use Rattle.book.specs.declared.Update.{Update}
 use lib.ListN.{drop}
@@ -30,12 +30,12 @@ loop-i-preserved c =
     let s = st l.g l.store in
     let o : st j.result j.new.store ≡ give_s (f l.i) s = j.ensures ∙ ap (λ (u : Update). give_s u s) c.load_update-u.ensures in
     let r : give_all_s (f l.i ∷ drop (l.i + 1) (tab f a.count)) s ≡ give_all_s (tab f a.count) (st a.h a.store.now) =
-    rw (tab-turn f a.count l.i (omega arith)) at l.invariant.2 in
-    (omega arith, j.auto.store ∙ l.invariant.1, rw o r, rw o (give-formed (f l.i) s l.invariant.3))
+    rw (tab_turn f a.count l.i (omega arith)) at l.invariant.2 in
+    (omega arith, j.auto.store ∙ l.invariant.1, rw o r, rw o (give_formed (f l.i) s l.invariant.3))
 
 pub returns : goal.returns
 unfolding give_all_s
 returns c =
     let l = c.loop-i in
     let a = c.args in
-    rw (tab-end (λ (i : ℕ). update_at a.run.now (i * 9)) a.count l.i (omega arith)) at l.invariant.2
+    rw (tab_end (λ (i : ℕ). update_at a.run.now (i * 9)) a.count l.i (omega arith)) at l.invariant.2

@@ -1,8 +1,8 @@
 -- `digits::long` meets its contract: the whole answer is what is left gives, after the digits that wrote v. Assumes nothing.
 use Rattle.std.proofs.Common.{◌+◌, ◌-◌, ◌%◌, length, sym, ◌∙◌, arith}
-use Rattle.digits.proofs.Width.{below, small, push-four}
+use Rattle.digits.proofs.Width.{below, small, push_four}
 use Rattle.digits.proofs.Steps.{begun, done}
-use Rattle.digits.proofs.Parts.{after_first, none_first, after_next, none-next}
+use Rattle.digits.proofs.Parts.{after_first, none_first, after_next, none_next}
 use Rattle.digits.proofs.long.Goals as goal
 
 pub returns-in_default : goal.returns-in_default
@@ -19,24 +19,24 @@ loop-i-init c =
 pub returns-in_default-next : goal.returns-in_default-next
 returns-in_default-next c =
     let l = c.loop-i in
-    sym (l.invariant.3 ∙ none-next _ l.i l.v (omega (arith, c.loop-i-test.true, l.invariant.1)) (sym c.in_default-next.ensures))
+    sym (l.invariant.3 ∙ none_next _ l.i l.v (omega (arith, c.loop-i-test.true, l.invariant.1)) (sym c.in_default-next.ensures))
 
 pub overflow_mul-v : goal.overflow_mul-v
 overflow_mul-v c =
     let l = c.loop-i in
-    omega (arith, push-four l.i {w = 0} l.invariant.2 (omega arith), small {j = l.i + 4} (omega (arith, c.loop-i-test.true, l.invariant.1, c.requires.1)))
+    omega (arith, push_four l.i {w = 0} l.invariant.2 (omega arith), small {j = l.i + 4} (omega (arith, c.loop-i-test.true, l.invariant.1, c.requires.1)))
 
 pub overflow_add-v : goal.overflow_add-v
 overflow_add-v c =
     let l = c.loop-i in
     let w = below 4 _ (sym c.in-Is-next.ensures) in
-    omega (arith, push-four l.i l.invariant.2 w, small {j = l.i + 4} (omega (arith, c.loop-i-test.true, l.invariant.1, c.requires.1)))
+    omega (arith, push_four l.i l.invariant.2 w, small {j = l.i + 4} (omega (arith, c.loop-i-test.true, l.invariant.1, c.requires.1)))
 
 pub loop-i-preserved : goal.loop-i-preserved
 loop-i-preserved c =
     let l = c.loop-i in
     let e = sym c.in-Is-next.ensures in
-    (omega (arith, c.loop-i-test.true, l.invariant.1), omega (arith, l.invariant.1), push-four l.i l.invariant.2 (below 4 _ e), l.invariant.3 ∙ after_next _ l.i l.v (omega (arith, c.loop-i-test.true, l.invariant.1)) e)
+    (omega (arith, c.loop-i-test.true, l.invariant.1), omega (arith, l.invariant.1), push_four l.i l.invariant.2 (below 4 _ e), l.invariant.3 ∙ after_next _ l.i l.v (omega (arith, c.loop-i-test.true, l.invariant.1)) e)
 
 pub returns : goal.returns
 returns c =

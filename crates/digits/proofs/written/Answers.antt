@@ -1,12 +1,12 @@
 -- `digits::written` meets its contract. Assumes nothing.
 use Rattle.std.proofs.Common.{sym, ap, ◌∙◌}
 use Rattle.digits.specs.declared.Number.TheVariants.{Is}
-use Rattle.digits.proofs.Fours.{writes, writes-none}
+use Rattle.digits.proofs.Fours.{writes, writes_none}
 use Rattle.digits.proofs.written.Goals as goal
 
 pub returns-then-w-ne0 : goal.returns-then-w-ne0
 returns-then-w-ne0 c =
-    sym (writes-none c.args.w c.requires c.if-w-ne0.true)
+    sym (writes_none c.args.w c.requires c.if-w-ne0.true)
 
 pub returns : goal.returns
 returns c =

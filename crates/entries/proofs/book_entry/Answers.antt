@@ -6,12 +6,12 @@ use mathlib.Core.Path.{◌≡◌, sym}
 use borrow.Author.Tests.{le-leb, lt-leb}
 use Rattle.tags.specs.Slots.{slot_of, marked}
 use Rattle.entries.specs.Entries.{book_entry, said}
-use Rattle.values.proofs.Answers.{no-values, are-values}
+use Rattle.values.proofs.Answers.{no_values, are_values}
 use Rattle.entries.proofs.book_entry.Goals as goal
 
 -- new and change have values, and the deletes have none
-has-values : (action : ℕ) → action ≤ 1 → leb action 1 ≡ true
-has-values action l = le-leb action 1 l
+has_values : (action : ℕ) → action ≤ 1 → leb action 1 ≡ true
+has_values action l = le-leb action 1 l
 
 deletes : {action : ℕ} → 1 < action → leb action 1 ≡ false
 deletes l = lt-leb _ 1 l
@@ -51,8 +51,8 @@ returns-in_default-values c =
       ← c.value.ensures,
       sym c.in-Is.ensures,
       sym c.in-Is-instrument.ensures,
-      has-values c.args.action c.if-action-gt-CHANGE.false,
-      no-values _ (sym c.in_default-values.ensures),
+      has_values c.args.action c.if-action-gt-CHANGE.false,
+      no_values _ (sym c.in_default-values.ensures),
     )
 
 pub returns : goal.returns
@@ -62,6 +62,6 @@ returns c =
       ← c.value.ensures,
       sym c.in-Is.ensures,
       sym c.in-Is-instrument.ensures,
-      has-values c.args.action c.if-action-gt-CHANGE.false,
-      are-values _ (sym c.in-Is-values.ensures),
+      has_values c.args.action c.if-action-gt-CHANGE.false,
+      are_values _ (sym c.in-Is-values.ensures),
     )

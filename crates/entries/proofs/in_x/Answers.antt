@@ -10,15 +10,15 @@ use Rattle.entries.specs.Entries.{entry_in_x, said}
 use Rattle.entries.proofs.in_x.Goals as goal
 
 -- 279 is read from 0 to 4
-action-is : (text : List ℕ) {r n : Number} → r ≡ ranged_of 1 0 4 text → r ≡ n → ranged_of 1 0 4 text ≡ n
-action-is text p q = sym p ∙ q
+action_is : (text : List ℕ) {r n : Number} → r ≡ ranged_of 1 0 4 text → r ≡ n → ranged_of 1 0 4 text ≡ n
+action_is text p q = sym p ∙ q
 
 pub returns-in_default : goal.returns-in_default
 unfolding entry_in_x said marked slot_of
 returns-in_default c =
     rw (
       ← c.value.ensures,
-      action-is _ c.ranged.ensures c.in_default.is,
+      action_is _ c.ranged.ensures c.in_default.is,
     )
 
 pub returns-in_default-sort : goal.returns-in_default-sort
@@ -26,7 +26,7 @@ unfolding entry_in_x said marked slot_of
 returns-in_default-sort c =
     rw (
       ← c.value.ensures,
-      action-is _ c.ranged.ensures c.in-Is.is,
+      action_is _ c.ranged.ensures c.in-Is.is,
       ← c.value-2.ensures,
       sym c.in_default-sort.ensures,
     )
@@ -36,7 +36,7 @@ unfolding entry_in_x said marked slot_of
 returns-then-sort-le-OFFER c =
     rw (
       ← c.value.ensures,
-      action-is _ c.ranged.ensures c.in-Is.is,
+      action_is _ c.ranged.ensures c.in-Is.is,
       ← c.value-2.ensures,
       sym c.in-Is-sort.ensures,
       le-leb _ _ c.if-sort-le-OFFER.true,
@@ -47,7 +47,7 @@ unfolding entry_in_x said marked slot_of
 returns-then-sort-eq-J c =
     rw (
       ← c.value.ensures,
-      action-is _ c.ranged.ensures c.in-Is.is,
+      action_is _ c.ranged.ensures c.in-Is.is,
       ← c.value-2.ensures,
       sym c.in-Is-sort.ensures,
       lt-leb _ _ c.if-sort-le-OFFER.false,
@@ -59,7 +59,7 @@ unfolding entry_in_x said marked slot_of
 returns c =
     rw (
       ← c.value.ensures,
-      action-is _ c.ranged.ensures c.in-Is.is,
+      action_is _ c.ranged.ensures c.in-Is.is,
       ← c.value-2.ensures,
       sym c.in-Is-sort.ensures,
       lt-leb _ _ c.if-sort-le-OFFER.false,

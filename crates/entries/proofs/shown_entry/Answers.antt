@@ -2,7 +2,7 @@
 use mathlib.Core.Path.{sym}
 use Rattle.tags.specs.Slots.{slot_of, marked}
 use Rattle.entries.specs.Entries.{shown_entry, said}
-use Rattle.values.proofs.Answers.{no-values, are-values}
+use Rattle.values.proofs.Answers.{no_values, are_values}
 use Rattle.entries.proofs.shown_entry.Goals as goal
 
 pub returns-in_default : goal.returns-in_default
@@ -19,7 +19,7 @@ returns-in_default-values c =
     rw (
       ← c.value.ensures,
       sym c.in-Is.ensures,
-      no-values _ (sym c.in_default-values.ensures),
+      no_values _ (sym c.in_default-values.ensures),
     )
 
 pub returns : goal.returns
@@ -28,5 +28,5 @@ returns c =
     rw (
       ← c.value.ensures,
       sym c.in-Is.ensures,
-      are-values _ (sym c.in-Is-values.ensures),
+      are_values _ (sym c.in-Is-values.ensures),
     )

@@ -2,12 +2,12 @@
 use mathlib.Core.Path.{sym, ap, ◌∙◌}
 use native.Mathlib.Omega.{arith}
 use Rattle.frame.proofs.Messages.{outline}
-use Rattle.group.proofs.Reading.{spared-all}
-use Rattle.fields.proofs.Whole.{was_read, no-outline, body_refused, body-read}
+use Rattle.group.proofs.Reading.{spared_all}
+use Rattle.fields.proofs.Whole.{was_read, no_outline, body_refused, body_read}
 use Rattle.fields.proofs.read.Goals as goal
 
 pub returns-in_default : goal.returns-in_default
-returns-in_default c = no-outline _ _ c.refusal.ensures (λ kind from e. c.in_default.not-Is kind from (c.outline.ensures ∙ e)) (spared-all _)
+returns-in_default c = no_outline _ _ c.refusal.ensures (λ kind from e. c.in_default.not-Is kind from (c.outline.ensures ∙ e)) (spared_all _)
 
 pub overflow_sub-end : goal.overflow_sub-end
 overflow_sub-end c = let o = outline _ _ _ (sym c.in-Is.ensures) in omega (arith, o.long)
@@ -20,11 +20,11 @@ slice_bounds-body-start c = let o = outline _ _ _ (sym c.in-Is.ensures) in omega
 
 pub returns-in-Numbered : goal.returns-in-Numbered
 returns-in-Numbered c =
-    body-read _ _ (sym c.in-Is.ensures) c.body-r.ensures (ap was_read c.in-Numbered.is)
+    body_read _ _ (sym c.in-Is.ensures) c.body-r.ensures (ap was_read c.in-Numbered.is)
 
 pub returns-in-Snapshot : goal.returns-in-Snapshot
 returns-in-Snapshot c =
-    body-read _ _ (sym c.in-Is.ensures) c.body-r.ensures (ap was_read c.in-Snapshot.is)
+    body_read _ _ (sym c.in-Is.ensures) c.body-r.ensures (ap was_read c.in-Snapshot.is)
 
 pub returns-in-Refused : goal.returns-in-Refused
 returns-in-Refused c =

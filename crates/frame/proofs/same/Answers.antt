@@ -1,6 +1,6 @@
 -- `frame::same` meets its contract: the whole answer is that of what is left. Assumes nothing.
 use Rattle.std.proofs.Common.{sym, refl, ◌∙◌}
-use Rattle.frame.proofs.Scan.{shorter, differs, agrees, at-end}
+use Rattle.frame.proofs.Scan.{shorter, differs, agrees, at_end_lem}
 use Rattle.frame.proofs.same.Goals as goal
 
 pub loop-i-init : goal.loop-i-init
@@ -18,4 +18,4 @@ loop-i-preserved c =
     c.loop-i.invariant ∙ agrees _ _ _ c.loop-i-test.true c.if-m-i.false c.if-a-i.false
 
 pub returns : goal.returns
-returns c = sym (c.loop-i.invariant ∙ at-end _ _ _ c.loop-i-test.false)
+returns c = sym (c.loop-i.invariant ∙ at_end_lem _ _ _ c.loop-i-test.false)

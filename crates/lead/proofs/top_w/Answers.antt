@@ -2,7 +2,7 @@
 use mathlib.Core.Path.{sym}
 use Rattle.tags.specs.Slots.{slot_of, marked}
 use Rattle.lead.specs.Leads.{top_x, top_w, topped}
-use Rattle.lead.proofs.Leading.{no_top, a-top}
+use Rattle.lead.proofs.Leading.{no_top, a_top}
 use Rattle.lead.proofs.top_w.Goals as goal
 
 pub returns-in_default : goal.returns-in_default
@@ -14,7 +14,7 @@ pub returns-in_default-instrument : goal.returns-in_default-instrument
 unfolding top_w topped marked slot_of
 returns-in_default-instrument c =
     rw (
-      a-top (top_x (marked c.args.s.now c.args.m)) (sym c.in-Is.ensures),
+      a_top (top_x (marked c.args.s.now c.args.m)) (sym c.in-Is.ensures),
       sym c.in_default-instrument.ensures,
     )
 
@@ -22,7 +22,7 @@ pub returns-in_default-ranged : goal.returns-in_default-ranged
 unfolding top_w topped marked slot_of
 returns-in_default-ranged c =
     rw (
-      a-top (top_x (marked c.args.s.now c.args.m)) (sym c.in-Is.ensures),
+      a_top (top_x (marked c.args.s.now c.args.m)) (sym c.in-Is.ensures),
       sym c.in-Is-instrument.ensures,
       ← c.value.ensures,
       sym c.in_default-ranged.ensures,
@@ -32,7 +32,7 @@ pub returns-in_default-ranged-2 : goal.returns-in_default-ranged-2
 unfolding top_w topped marked slot_of
 returns-in_default-ranged-2 c =
     rw (
-      a-top (top_x (marked c.args.s.now c.args.m)) (sym c.in-Is.ensures),
+      a_top (top_x (marked c.args.s.now c.args.m)) (sym c.in-Is.ensures),
       sym c.in-Is-instrument.ensures,
       ← c.value.ensures,
       sym c.in-Is-ranged.ensures,
@@ -44,7 +44,7 @@ pub returns : goal.returns
 unfolding top_w topped marked slot_of
 returns c =
     rw (
-      a-top (top_x (marked c.args.s.now c.args.m)) (sym c.in-Is.ensures),
+      a_top (top_x (marked c.args.s.now c.args.m)) (sym c.in-Is.ensures),
       sym c.in-Is-instrument.ensures,
       ← c.value.ensures,
       sym c.in-Is-ranged.ensures,

@@ -1,7 +1,7 @@
 -- `lot_on` meets its contract: the quote's refusals, the quantity, the side behind the quote.
 use mathlib.Core.Path.{◌∙◌}
 use Rattle.book.specs.Canonical.{held_in}
-use Rattle.lots.proofs.Tests.{passes, bad-units, good-units, no-units, brought}
+use Rattle.lots.proofs.Tests.{passes, bad_units, good_units, no_units, brought}
 use Rattle.lots.proofs.lot_on.Goals as goal
 
 pub returns-in_default : goal.returns-in_default
@@ -12,11 +12,11 @@ returns-in_default c =
 pub returns-then-quantity : goal.returns-then-quantity
 returns-then-quantity c =
     let x = c.args in
-    no-units _ x.quantity (held_in x.b.side) x.b.quoted c.in-Is.is (bad-units x.quantity c.if-quantity.true)
+    no_units _ x.quantity (held_in x.b.side) x.b.quoted c.in-Is.is (bad_units x.quantity c.if-quantity.true)
 
 pub returns : goal.returns
 returns c =
     let x = c.args in
     c.date.ensures
     ∙ rw c.of_side-l.ensures
-    (brought _ x.quantity (held_in x.b.side) x.b.quoted c.in-Is.is (good-units x.quantity c.if-quantity.false))
+    (brought _ x.quantity (held_in x.b.side) x.b.quoted c.in-Is.is (good_units x.quantity c.if-quantity.false))

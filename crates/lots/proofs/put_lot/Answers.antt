@@ -5,7 +5,7 @@ use lib.ListN.{length-set}
 use mir.Syntax.{w64}
 use mir.Facts.{to_z-of_z}
 use Rattle.ask.specs.Ask.{bits_of}
-use Rattle.lots.proofs.Tests.{sold-is}
+use Rattle.lots.proofs.Tests.{sold_is}
 use Rattle.lots.proofs.put_lot.Goals as goal
 
 pub put_moment-requires : goal.put_moment-requires
@@ -24,4 +24,4 @@ pub returns : goal.returns
 returns c =
     let x = c.args in
     let e : c.bits.result ≡ bits_of x.s.sum = c.bits.ensures ∙ ap bits_of (to_z-of_z {w = w64} (record { sfits = omega arith })) in
-    rw (c.put_moment.ensures, e) (sold-is x.out.now x.s)
+    rw (c.put_moment.ensures, e) (sold_is x.out.now x.s)

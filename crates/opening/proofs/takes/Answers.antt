@@ -6,7 +6,7 @@ use borrow.Author.Tests.{lt-leb, le-leb}
 use lib.ListN.{length}
 use Rattle.board.specs.Sound.{distinct}
 use Rattle.sides.proofs.Tests.{out_of, inside}
-use Rattle.opening.proofs.Written.{spread-all}
+use Rattle.opening.proofs.Written.{spread_all}
 use Rattle.opening.proofs.takes.Goals as goal
 
 pub returns-then-depth-gt-MOST_DEPTH : goal.returns-then-depth-gt-MOST_DEPTH
@@ -21,11 +21,11 @@ apart-requires c = λ k h. omega arith
 pub returns-then-not-apart : goal.returns-then-not-apart
 returns-then-not-apart c =
     let ids = c.args.ids.now in
-    let e : distinct ids ≡ false = sym (c.apart.ensures ∙ ap distinct (spread-all ids)) ∙ c.if-not-apart.true in
+    let e : distinct ids ≡ false = sym (c.apart.ensures ∙ ap distinct (spread_all ids)) ∙ c.if-not-apart.true in
     rw (le-leb _ _ c.if-depth-gt-MOST_DEPTH.false, inside 1 16 (length ids) c.if-n.false, e)
 
 pub returns : goal.returns
 returns c =
     let ids = c.args.ids.now in
-    let e : distinct ids ≡ true = sym (c.apart.ensures ∙ ap distinct (spread-all ids)) ∙ c.if-not-apart.false in
+    let e : distinct ids ≡ true = sym (c.apart.ensures ∙ ap distinct (spread_all ids)) ∙ c.if-not-apart.false in
     c.ids_fine.ensures ∙ rw (le-leb _ _ c.if-depth-gt-MOST_DEPTH.false, inside 1 16 (length ids) c.if-n.false, e)

@@ -1,5 +1,5 @@
 -- An id is its words; one of at most 8 bytes has the first alone. Assumes nothing.
-use Rattle.orderid.proofs.Steps.{read_as, none, long, by-words, one_word, rest_all}
+use Rattle.orderid.proofs.Steps.{read_as, none, long, by_words_lem, one_word, rest_all}
 use lib.ListN.{length-take}
 use mathlib.Core.Path.{sym, ◌∙◌}
 use native.Mathlib.Omega.{arith}
@@ -24,15 +24,15 @@ pub read_word-requires-2 : goal.read_word-requires-2
 read_word-requires-2 c = rw length-take (omega arith)
 
 pub returns-in_default-read_word : goal.returns-in_default-read_word
-returns-in_default-read_word c = sym (by-words _ c.if-n-eq0.false c.if-n-gt16.false ∙ rw (read_as c.read_word-2.ensures c.in_default-read_word.is))
+returns-in_default-read_word c = sym (by_words_lem _ c.if-n-eq0.false c.if-n-gt16.false ∙ rw (read_as c.read_word-2.ensures c.in_default-read_word.is))
 
 pub returns-in_default-read_word-2 : goal.returns-in_default-read_word-2
 returns-in_default-read_word-2 c =
     let e = rw rest_all at c.read_word-3.ensures in
-    sym (by-words _ c.if-n-eq0.false c.if-n-gt16.false ∙ rw (read_as c.read_word-2.ensures c.in-Is-read_word.is, read_as e c.in_default-read_word-2.is))
+    sym (by_words_lem _ c.if-n-eq0.false c.if-n-gt16.false ∙ rw (read_as c.read_word-2.ensures c.in-Is-read_word.is, read_as e c.in_default-read_word-2.is))
 
 pub returns : goal.returns
 returns c =
     let b = c.before in
     let e = rw rest_all at c.read_word-3.ensures in
-    sym (by-words _ c.if-n-eq0.false c.if-n-gt16.false ∙ rw (read_as c.read_word-2.ensures c.in-Is-read_word.is, read_as e c.in-Is-read_word-2.is))
+    sym (by_words_lem _ c.if-n-eq0.false c.if-n-gt16.false ∙ rw (read_as c.read_word-2.ensures c.in-Is-read_word.is, read_as e c.in-Is-read_word-2.is))

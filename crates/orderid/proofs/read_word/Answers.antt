@@ -1,6 +1,6 @@
 -- A turn takes one byte more of the word, which stays in the range of so many bytes. Assumes nothing.
 use Rattle.orderid.proofs.Steps.{low, high, more, done}
-use Rattle.orderid.proofs.Words.{top_of, top-step, top_small}
+use Rattle.orderid.proofs.Words.{top_of, top_step, top_small}
 use Rattle.orderid.specs.Words.{word_of}
 use mathlib.Core.Path.{refl, sym, ◌∙◌}
 use native.Mathlib.Numerals.{add-one}
@@ -26,7 +26,7 @@ overflow_add-v c = omega (arith, top_small c.loop-i.i (omega arith))
 pub loop-i-preserved : goal.loop-i-preserved
 loop-i-preserved c =
     let l = c.loop-i in
-    (omega arith, rw (add-one, c.wide.ensures) (top-step l.i l.invariant.1 (omega arith)), rw c.wide.ensures (l.invariant.2 ∙ more _ _ _ c.loop-i-test.true c.if-b-lt33.false c.if-b-gt126.false))
+    (omega arith, rw (add-one, c.wide.ensures) (top_step l.i l.invariant.1 (omega arith)), rw c.wide.ensures (l.invariant.2 ∙ more _ _ _ c.loop-i-test.true c.if-b-lt33.false c.if-b-gt126.false))
 
 pub returns : goal.returns
 returns c = sym (c.loop-i.invariant.2 ∙ done _ _ _ c.loop-i-test.false)

@@ -1,5 +1,5 @@
 -- A tag, a moment and SOH. Assumes nothing.
-use Rattle.pen.proofs.Laws.{a-field}
+use Rattle.pen.proofs.Laws.{a_field}
 use native.Mathlib.Omega.{arith}
 use Rattle.pen.proofs.moment_field.Goals as goal
 
@@ -8,4 +8,4 @@ returns c =
     let v = c.put_tag-b.ensures in
     let x = c.put_moment-d.ensures in
     let y = c.put.ensures in
-    (a-field c.args.tag _ v.0 x.0 y, omega (arith, v.1, x.1, y.next))
+    (a_field c.args.tag _ v.0 x.0 y, omega (arith, v.1, x.1, y.next))

@@ -1,5 +1,5 @@
 -- A tag, a price and SOH. Assumes nothing.
-use Rattle.pen.proofs.Laws.{a-field}
+use Rattle.pen.proofs.Laws.{a_field}
 use mir.Facts.{to_z-of_z}
 use native.Mathlib.Omega.{arith}
 use Rattle.pen.proofs.price_field.Goals as goal
@@ -9,4 +9,4 @@ returns c =
     let v = c.put_tag-b.ensures in
     let x = c.put-d.ensures in
     let y = c.put.ensures in
-    (a-field c.args.tag _ v.0 (rw (to_z-of_z c.ranges.p) at x.0) y, omega (arith, v.1, x.1, y.next))
+    (a_field c.args.tag _ v.0 (rw (to_z-of_z c.ranges.p) at x.0) y, omega (arith, v.1, x.1, y.next))

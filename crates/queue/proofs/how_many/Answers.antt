@@ -1,6 +1,6 @@
 -- `how_many` meets its contract: those counted and those left make the whole.
 use Rattle.queue.specs.Joins.{how_many}
-use Rattle.cells.proofs.Tables.{tab-turn, tab-end}
+use Rattle.cells.proofs.Tables.{tab_turn, tab_end}
 use Rattle.book.specs.declared.Update.{Update}
 use Rattle.cells.specs.Cells.{tab, update_at}
 use lib.ListN.{drop}
@@ -24,7 +24,7 @@ loop-i-preserved c =
     let a = c.args in
     let f : ℕ → Update = λ (i : ℕ). update_at a.run.now (i * 9) in
     let e : l.r + how_many a.k (f l.i ∷ drop (l.i + 1) (tab f a.count)) ≡ how_many a.k (tab f a.count) =
-    rw (tab-turn f a.count l.i (omega arith)) at l.invariant.1 in
+    rw (tab_turn f a.count l.i (omega arith)) at l.invariant.1 in
     let o = c.one_if-r.ensures.0 in
     (omega arith, omega arith, omega arith)
 
@@ -33,4 +33,4 @@ unfolding how_many
 returns c =
     let l = c.loop-i in
     let a = c.args in
-    (sym (add-zero l.r) ∙ (rw (tab-end (λ (i : ℕ). update_at a.run.now (i * 9)) a.count l.i (omega arith)) at l.invariant.1), omega arith)
+    (sym (add-zero l.r) ∙ (rw (tab_end (λ (i : ℕ). update_at a.run.now (i * 9)) a.count l.i (omega arith)) at l.invariant.1), omega arith)

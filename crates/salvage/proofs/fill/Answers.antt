@@ -1,6 +1,6 @@
 -- `salvage::fill` meets its contract: what is left of the pieces fills what is left of the room. Assumes nothing.
 use native.Mathlib.Omega.{arith}
-use Rattle.salvage.proofs.Filling.{going_start, going-full, going_end, going_on}
+use Rattle.salvage.proofs.Filling.{going_start, going_full, going_end, going_on}
 use Rattle.salvage.proofs.fill.Goals as goal
 
 pub loop-i-init : goal.loop-i-init
@@ -13,7 +13,7 @@ pub shape_of-out-then-room-at-lt-PIECE : goal.shape_of-out-then-room-at-lt-PIECE
 shape_of-out-then-room-at-lt-PIECE c = c.loop-i.invariant.0.long
 
 pub returns-then-room-at-lt-PIECE : goal.returns-then-room-at-lt-PIECE
-returns-then-room-at-lt-PIECE c = going-full _ _ _ _ _ _ _ c.loop-i.invariant.0 c.if-room-at-lt-PIECE.true
+returns-then-room-at-lt-PIECE c = going_full _ _ _ _ _ _ _ c.loop-i.invariant.0 c.if-room-at-lt-PIECE.true
 
 pub first-x-requires : goal.first-x-requires
 first-x-requires c = (c.loop-i-test.true, c.loop-i.invariant.1)

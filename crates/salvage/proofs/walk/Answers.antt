@@ -3,7 +3,7 @@ use native.Mathlib.Omega.{arith}
 use lib.ListN.{length-set}
 use borrow.Author.Tests.{lt-ltb, le-ltb}
 use Rattle.salvage.specs.Rooms.{walk_answer, walk_out}
-use Rattle.salvage.proofs.Filling.{filled-out}
+use Rattle.salvage.proofs.Filling.{filled_out}
 use Rattle.salvage.proofs.walk.Goals as goal
 
 pub returns-then-rec-from : goal.returns-then-rec-from
@@ -23,5 +23,5 @@ unfolding walk_answer
 returns c =
     record {
       answer = rw (le-ltb _ _ c.if-rec-from.false, le-ltb _ _ c.if-out-lt-LEAST_ROOM.false);
-      out = filled-out _ _ _ _ _ _ c.if-rec-from.false c.if-out-lt-LEAST_ROOM.false c.fill-s.ensures;
+      out = filled_out _ _ _ _ _ _ c.if-rec-from.false c.if-out-lt-LEAST_ROOM.false c.fill-s.ensures;
     }

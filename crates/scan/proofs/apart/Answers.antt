@@ -5,7 +5,7 @@ use Prim.Native.Nat.{ℕ, ◌+◌, ◌*◌}
 use native.Mathlib.Omega.{arith}
 use lib.ListN.{get_or, drop}
 use Rattle.cells.specs.Cells.{tab}
-use Rattle.cells.proofs.Tables.{tab-turn, tab-end}
+use Rattle.cells.proofs.Tables.{tab_turn, tab_end}
 use Rattle.board.specs.Sound.{among, distinct}
 use Rattle.scan.proofs.apart.Goals as goal
 
@@ -40,7 +40,7 @@ returns-then-stands c =
     let a = c.args in
     let f : ℕ → ℕ = λ (i : ℕ). get_or a.run.now (a.at + i * a.step) 0 in
     let e : among (f l.i) (drop (l.i + 1) (tab f a.n)) ≡ true = sym c.stands.ensures ∙ c.if-stands.true in
-    sym (l.invariant ∙ rw (tab-turn f a.n l.i c.loop-i-test.true, e))
+    sym (l.invariant ∙ rw (tab_turn f a.n l.i c.loop-i-test.true, e))
 
 pub loop-i-preserved : goal.loop-i-preserved
 unfolding distinct
@@ -49,7 +49,7 @@ loop-i-preserved c =
     let a = c.args in
     let f : ℕ → ℕ = λ (i : ℕ). get_or a.run.now (a.at + i * a.step) 0 in
     let e : among (f l.i) (drop (l.i + 1) (tab f a.n)) ≡ false = sym c.stands.ensures ∙ c.if-stands.false in
-    l.invariant ∙ rw (tab-turn f a.n l.i c.loop-i-test.true, e)
+    l.invariant ∙ rw (tab_turn f a.n l.i c.loop-i-test.true, e)
 
 pub returns : goal.returns
 unfolding distinct
@@ -57,4 +57,4 @@ returns c =
     let l = c.loop-i in
     let a = c.args in
     let f : ℕ → ℕ = λ (i : ℕ). get_or a.run.now (a.at + i * a.step) 0 in
-    sym (l.invariant ∙ rw (tab-end f a.n l.i c.loop-i-test.false))
+    sym (l.invariant ∙ rw (tab_end f a.n l.i c.loop-i-test.false))

@@ -7,8 +7,8 @@ use lib.ListN.{get_or}
 use Rattle.store.specs.Layout.{at_followed, at_marks, bids_of}
 use Rattle.sides.specs.Side.{each, room_of}
 use Rattle.scan.specs.Scan.{book_scan, books_scan}
-use Rattle.sides.proofs.Each.{each_none, each_more, each-false}
-use Rattle.scan.proofs.Booked.{books-fine}
+use Rattle.sides.proofs.Each.{each_none, each_more, each_false}
+use Rattle.scan.proofs.Booked.{books_fine}
 use Rattle.scan.proofs.books.Goals as goal
 
 pub returns-then-tried : goal.returns-then-tried
@@ -16,7 +16,7 @@ unfolding books_scan
 returns-then-tried c =
     let a = c.args in
     let xs = a.store.now in
-    c.zeros.ensures ∙ rw (books-fine a.most a.full (get_or xs at_marks 0) xs (get_or xs at_followed 0) (c.tried.ensures c.if-tried.true))
+    c.zeros.ensures ∙ rw (books_fine a.most a.full (get_or xs at_marks 0) xs (get_or xs at_followed 0) (c.tried.ensures c.if-tried.true))
 
 pub loop-i-init : goal.loop-i-init
 loop-i-init c = (omega arith, each_none _)
@@ -29,7 +29,7 @@ returns-then-not-book c =
     let xs = a.store.now in
     let f : ℕ → Bool = λ (k : ℕ). book_scan (room_of (get_or xs at_marks 0) k) a.most a.full xs (bids_of k) in
     let e : f l.i ≡ false = rw (← c.room_of-room.ensures.0, ← c.book.ensures) c.if-not-book.true in
-    rw (each-false f (get_or xs at_followed 0) l.i c.loop-i-test.true e)
+    rw (each_false f (get_or xs at_followed 0) l.i c.loop-i-test.true e)
 
 pub loop-i-preserved : goal.loop-i-preserved
 loop-i-preserved c =

@@ -7,8 +7,8 @@ use lib.ListN.{get_or}
 use Rattle.store.specs.Layout.{at_number, at_followed, at_queued, slot_of}
 use Rattle.sides.specs.Side.{each}
 use Rattle.scan.specs.Scan.{slot_scan, low_of, queue_scan}
-use Rattle.sides.proofs.Each.{each_none, each_more, each-false}
-use Rattle.scan.proofs.Lowest.{low-next}
+use Rattle.sides.proofs.Each.{each_none, each_more, each_false}
+use Rattle.scan.proofs.Lowest.{low_next}
 use Rattle.scan.proofs.queue.Goals as goal
 
 pub loop-i-init : goal.loop-i-init
@@ -23,7 +23,7 @@ returns-then-not-slot c =
     let xs = a.store.now in
     let f : ℕ → Bool = λ (k : ℕ). slot_scan (low_of xs k) (get_or xs at_number 0) (get_or xs at_followed 0) a.most a.full xs (slot_of k) in
     let e : f l.i ≡ false = rw (← l.invariant.1, ← c.slot.ensures) c.if-not-slot.true in
-    rw (each-false f (get_or xs at_queued 0) l.i c.loop-i-test.true e)
+    rw (each_false f (get_or xs at_queued 0) l.i c.loop-i-test.true e)
 
 pub loop-i-preserved : goal.loop-i-preserved
 loop-i-preserved c =
@@ -32,7 +32,7 @@ loop-i-preserved c =
     let xs = a.store.now in
     let f : ℕ → Bool = λ (k : ℕ). slot_scan (low_of xs k) (get_or xs at_number 0) (get_or xs at_followed 0) a.most a.full xs (slot_of k) in
     let e : f l.i ≡ true = rw (← l.invariant.1, ← c.slot.ensures) c.if-not-slot.false in
-    (omega arith, sym (low-next xs l.i), rw (each_more, l.invariant.2) e)
+    (omega arith, sym (low_next xs l.i), rw (each_more, l.invariant.2) e)
 
 pub returns : goal.returns
 unfolding queue_scan

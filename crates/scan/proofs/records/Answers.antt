@@ -9,12 +9,12 @@ use lib.ListN.{get_or, drop}
 use Rattle.board.specs.Sound.{distinct}
 use Rattle.board.proofs.Tested.{both}
 use Rattle.cells.specs.Cells.{tab}
-use Rattle.cells.proofs.Tables.{tab-turn, tab-end}
+use Rattle.cells.proofs.Tables.{tab_turn, tab_end}
 use Rattle.store.specs.Layout.{id_of}
 use Rattle.sides.specs.Side.{each}
 use Rattle.scan.specs.Scan.{record_scan, records_scan}
-use Rattle.scan.proofs.Ascents.{ascends-end, ascends-turn, ascends-distinct}
-use Rattle.sides.proofs.Each.{each_none, each_more, each-false}
+use Rattle.scan.proofs.Ascents.{ascends_end, ascends_turn, ascends_distinct}
+use Rattle.sides.proofs.Each.{each_none, each_more, each_false}
 use Rattle.scan.proofs.records.Goals as goal
 
 pub returns-then-not-zero : goal.returns-then-not-zero
@@ -31,7 +31,7 @@ returns-then-not-instrument c =
     let a = c.args in
     let f : ℕ → Bool = λ (k : ℕ). record_scan a.store.now (id_of k) in
     let e : f l.i ≡ false = rw (← c.instrument.ensures) c.if-not-instrument.true in
-    rw (← c.zero.ensures, c.if-not-zero.false, each-false f a.n l.i c.loop-i-test.true e)
+    rw (← c.zero.ensures, c.if-not-zero.false, each_false f a.n l.i c.loop-i-test.true e)
 
 pub loop-i-preserved : goal.loop-i-preserved
 loop-i-preserved c =
@@ -45,7 +45,7 @@ loop-i-preserved c =
       λ u h.
           let p = both l.up (ltb l.last (f l.i)) u in
           l.invariant.2 p.0
-          (rw (tab-turn f a.n l.i c.loop-i-test.true) (ascends-turn l.last (f l.i) (drop (l.i + 1) (tab f a.n)) (ltb-true l.last (f l.i) p.1) h)),
+          (rw (tab_turn f a.n l.i c.loop-i-test.true) (ascends_turn l.last (f l.i) (drop (l.i + 1) (tab f a.n)) (ltb-true l.last (f l.i) p.1) h)),
     )
 
 pub returns-then-up : goal.returns-then-up
@@ -57,7 +57,7 @@ returns-then-up c =
     let h : each (λ (k : ℕ). record_scan a.store.now (id_of k)) a.n ≡ true = rw q at l.invariant.1 in
     let f : ℕ → ℕ = λ (i : ℕ). get_or a.store.now (32 + i * 8) 0 in
     let d : distinct (tab f a.n) ≡ true =
-    ascends-distinct 0 (tab f a.n) (l.invariant.2 c.if-up.true (rw (tab-end f a.n l.i c.loop-i-test.false) (ascends-end l.last))) in
+    ascends_distinct 0 (tab f a.n) (l.invariant.2 c.if-up.true (rw (tab_end f a.n l.i c.loop-i-test.false) (ascends_end l.last))) in
     rw (c.zero-unused.ensures, ← c.zero.ensures, c.if-not-zero.false, h, d, and-true)
 
 pub apart-distinct-requires : goal.apart-distinct-requires

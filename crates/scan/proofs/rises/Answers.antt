@@ -4,8 +4,8 @@ use Prim.Native.Nat.{ℕ, ◌+◌, ◌*◌}
 use native.Mathlib.Omega.{arith}
 use lib.ListN.{get_or, drop}
 use Rattle.cells.specs.Cells.{tab}
-use Rattle.cells.proofs.Tables.{tab-turn, tab-end}
-use Rattle.scan.proofs.Ascents.{ascends-end, ascends-turn, ascends-distinct}
+use Rattle.cells.proofs.Tables.{tab_turn, tab_end}
+use Rattle.scan.proofs.Ascents.{ascends_end, ascends_turn, ascends_distinct}
 use Rattle.scan.proofs.rises.Goals as goal
 
 pub loop-i-init : goal.loop-i-init
@@ -32,11 +32,11 @@ loop-i-preserved c =
     let a = c.args in
     let f : ℕ → ℕ = λ (i : ℕ). get_or a.run.now (a.at + i * a.step) 0 in
     λ e.
-    l.invariant (rw (tab-turn f a.n l.i c.loop-i-test.true) (ascends-turn l.last (f l.i) (drop (l.i + 1) (tab f a.n)) c.if-d-last.false e))
+    l.invariant (rw (tab_turn f a.n l.i c.loop-i-test.true) (ascends_turn l.last (f l.i) (drop (l.i + 1) (tab f a.n)) c.if-d-last.false e))
 
 pub returns : goal.returns
 returns c =
     let l = c.loop-i in
     let a = c.args in
     let f : ℕ → ℕ = λ (i : ℕ). get_or a.run.now (a.at + i * a.step) 0 in
-    λ e. ascends-distinct 0 (tab f a.n) (l.invariant (rw (tab-end f a.n l.i c.loop-i-test.false) (ascends-end l.last)))
+    λ e. ascends_distinct 0 (tab f a.n) (l.invariant (rw (tab_end f a.n l.i c.loop-i-test.false) (ascends_end l.last)))

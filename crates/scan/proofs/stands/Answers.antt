@@ -4,7 +4,7 @@ use Prim.Native.Nat.{ℕ, ◌+◌, ◌*◌}
 use native.Mathlib.Omega.{arith}
 use borrow.Author.Tests.{eq-eqb, ne_eqb}
 use lib.ListN.{get_or}
-use Rattle.cells.proofs.Tables.{tab-turn, tab-end}
+use Rattle.cells.proofs.Tables.{tab_turn, tab_end}
 use Rattle.scan.proofs.stands.Goals as goal
 
 pub loop-j-init : goal.loop-j-init
@@ -27,18 +27,18 @@ returns-then-run-at c =
     let l = c.loop-j in
     let a = c.args in
     let f : ℕ → ℕ = λ (i : ℕ). get_or a.run.now (a.at + i * a.step) 0 in
-    sym (l.invariant ∙ rw (tab-turn f a.n l.j c.loop-j-test.true, eq-eqb _ _ c.if-run-at.true))
+    sym (l.invariant ∙ rw (tab_turn f a.n l.j c.loop-j-test.true, eq-eqb _ _ c.if-run-at.true))
 
 pub loop-j-preserved : goal.loop-j-preserved
 loop-j-preserved c =
     let l = c.loop-j in
     let a = c.args in
     let f : ℕ → ℕ = λ (i : ℕ). get_or a.run.now (a.at + i * a.step) 0 in
-    l.invariant ∙ rw (tab-turn f a.n l.j c.loop-j-test.true, ne_eqb _ _ c.if-run-at.false)
+    l.invariant ∙ rw (tab_turn f a.n l.j c.loop-j-test.true, ne_eqb _ _ c.if-run-at.false)
 
 pub returns : goal.returns
 returns c =
     let l = c.loop-j in
     let a = c.args in
     let f : ℕ → ℕ = λ (i : ℕ). get_or a.run.now (a.at + i * a.step) 0 in
-    sym (l.invariant ∙ rw (tab-end f a.n l.j c.loop-j-test.false))
+    sym (l.invariant ∙ rw (tab_end f a.n l.j c.loop-j-test.false))

@@ -1,9 +1,9 @@
 -- `write` meets its contract: the store first, then the arguments, then the instrument.
 use mathlib.Core.Path.{◌≡◌, sym, ◌∙◌}
 use mathlib.Core.Bool.{true}
-use Rattle.moment.proofs.Bounds.{moment-lt}
+use Rattle.moment.proofs.Bounds.{moment_lt}
 use Rattle.sound.specs.Sound.{sound}
-use Rattle.send.proofs.Pages.{sent, unsound, no-time, bad, good}
+use Rattle.send.proofs.Pages.{sent, unsound, no_time, bad, good}
 use Rattle.send.proofs.write.Goals as goal
 
 pub returns-then-not-sound : goal.returns-then-not-sound
@@ -16,7 +16,7 @@ pub returns-in_default : goal.returns-in_default
 returns-in_default c =
     let x = c.args in
     let s : sound x.store.now ≡ true = sym c.sound.ensures ∙ c.if-not-sound.false in
-    let p = no-time x.id x.sender.now x.target.now x.k x.m x.time.now x.store.now s (sym c.in_default.ensures) in
+    let p = no_time x.id x.sender.now x.target.now x.k x.m x.time.now x.store.now s (sym c.in_default.ensures) in
     sent x.id x.sender.now x.target.now x.k x.m x.time.now x.store.now x.out.now _ p
 
 pub returns-then-not-arguments_fine : goal.returns-then-not-arguments_fine
@@ -30,7 +30,7 @@ pub write_sound-requires : goal.write_sound-requires
 write_sound-requires c =
     let x = c.args in
     let s : sound x.store.now ≡ true = sym c.sound.ensures ∙ c.if-not-sound.false in
-    (s, sym c.arguments_fine.ensures ∙ c.if-not-arguments_fine.false, moment-lt x.time.now (sym c.in-Is.ensures))
+    (s, sym c.arguments_fine.ensures ∙ c.if-not-arguments_fine.false, moment_lt x.time.now (sym c.in-Is.ensures))
 
 pub returns : goal.returns
 returns c =

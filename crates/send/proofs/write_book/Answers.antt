@@ -5,7 +5,7 @@ use Rattle.book.specs.declared.Book.{Book}
 use Rattle.snapshot.specs.Writing.{letter, Ready}
 use Rattle.writer.specs.Writing.{page_of, written_of, out_after}
 use Rattle.send.specs.Send.{written_number}
-use Rattle.send.proofs.Pages.{page-most, written-most}
+use Rattle.send.proofs.Pages.{page_most, written_most}
 use Rattle.send.proofs.write_book.Goals as goal
 
 pub write_page-w-requires : goal.write_page-w-requires
@@ -17,7 +17,7 @@ overflow_mul-result c =
     let l = letter x.sender.now x.target.now x.k x.m x.time in
     let b = c.load_book-book.result in
     let r : Ready l x.id x.last b = rw c.load_book-book.ensures c.requires.2 in
-    let w = written-most (page_of x.depth l x.id x.last b) x.out.now c.write_page-w.result c.write_page-w.ensures.value (page-most x.depth l x.id x.last b r) in
+    let w = written_most (page_of x.depth l x.id x.last b) x.out.now c.write_page-w.result c.write_page-w.ensures.value (page_most x.depth l x.id x.last b r) in
     record { fits = omega (arith, w.1) }
 
 pub overflow_add-result : goal.overflow_add-result
@@ -26,7 +26,7 @@ overflow_add-result c =
     let l = letter x.sender.now x.target.now x.k x.m x.time in
     let b = c.load_book-book.result in
     let r : Ready l x.id x.last b = rw c.load_book-book.ensures c.requires.2 in
-    let w = written-most (page_of x.depth l x.id x.last b) x.out.now c.write_page-w.result c.write_page-w.ensures.value (page-most x.depth l x.id x.last b r) in
+    let w = written_most (page_of x.depth l x.id x.last b) x.out.now c.write_page-w.result c.write_page-w.ensures.value (page_most x.depth l x.id x.last b r) in
     record { fits = omega (arith, w.0, w.1) }
 
 pub returns : goal.returns

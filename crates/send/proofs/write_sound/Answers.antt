@@ -12,7 +12,7 @@ use Rattle.writer.specs.Writing.{page_of}
 use Rattle.send.specs.Send.{Page, message, refusal, page_at, page_answer, page_out}
 use Rattle.sound.proofs.Readers.{formed, marks}
 use Rattle.send.proofs.Facts.{ready}
-use Rattle.send.proofs.Pages.{not-followed, is-waiting, is_live}
+use Rattle.send.proofs.Pages.{not_followed, is_waiting, is_live}
 use Rattle.send.proofs.write_sound.Goals as goal
 
 pub load_heading-h-requires : goal.load_heading-h-requires
@@ -34,7 +34,7 @@ returns-then-h-i c =
     let h = c.load_heading-h.ensures in
     let e : c.find-i.result ≡ look x.id (board_at xs).insts = rw h at c.find-i.ensures.0 in
     let l = letter x.sender.now x.target.now x.k x.m x.time in
-    let p : page_at (look x.id (board_at xs).insts) l x.id (board_at xs) ≡ refusal 20 = rw (← e) (not-followed (loaded xs) c.find-i.result l x.id (rw h at c.if-h-i.true)) in
+    let p : page_at (look x.id (board_at xs).insts) l x.id (board_at xs) ≡ refusal 20 = rw (← e) (not_followed (loaded xs) c.find-i.result l x.id (rw h at c.if-h-i.true)) in
     record {
       value = sym (ap (λ (y : Page). page_answer y x.out.now) p);
       out_after = sym (ap (λ (y : Page). page_out y x.out.now) p);
@@ -54,7 +54,7 @@ returns-then-waits c =
     let e : c.find-i.result ≡ look x.id (board_at xs).insts = rw h at c.find-i.ensures.0 in
     let l = letter x.sender.now x.target.now x.k x.m x.time in
     let w : marked (heading_at xs).marks c.find-i.result ≡ true = rw h at (sym c.waits.ensures ∙ c.if-waits.true) in
-    let p : page_at (look x.id (board_at xs).insts) l x.id (board_at xs) ≡ refusal 21 = rw (← e) (is-waiting (loaded xs) c.find-i.result l x.id (rw h at c.if-h-i.false) w) in
+    let p : page_at (look x.id (board_at xs).insts) l x.id (board_at xs) ≡ refusal 21 = rw (← e) (is_waiting (loaded xs) c.find-i.result l x.id (rw h at c.if-h-i.false) w) in
     record {
       value = sym (ap (λ (y : Page). page_answer y x.out.now) p);
       out_after = sym (ap (λ (y : Page). page_out y x.out.now) p);

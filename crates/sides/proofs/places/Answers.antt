@@ -4,7 +4,7 @@ use mathlib.Core.Bool.{Bool, true, false}
 use Prim.Native.Nat.{ℕ, ◌+◌, ◌*◌}
 use native.Mathlib.Omega.{arith}
 use Rattle.sides.specs.Side.{entry_scan}
-use Rattle.sides.proofs.Each.{each_none, each_more, each-false}
+use Rattle.sides.proofs.Each.{each_none, each_more, each_false}
 use Rattle.sides.proofs.places.Goals as goal
 
 pub loop-i-init : goal.loop-i-init
@@ -16,7 +16,7 @@ returns-then-not-entry c =
     let a = c.args in
     let f : ℕ → Bool = λ (k : ℕ). entry_scan a.most a.full a.store.now (a.at + k * 5) in
     let e : f l.i ≡ false = rw (← l.invariant.1, ← c.entry.ensures) c.if-not-entry.true in
-    sym (each-false f a.n l.i c.loop-i-test.true e)
+    sym (each_false f a.n l.i c.loop-i-test.true e)
 
 pub loop-i-preserved : goal.loop-i-preserved
 loop-i-preserved c =

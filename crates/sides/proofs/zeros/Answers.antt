@@ -2,11 +2,11 @@
 use mathlib.Core.Path.{◌≡◌, sym}
 use Prim.Native.Nat.{◌/◌}
 use native.Mathlib.Omega.{arith}
-use Rattle.sides.proofs.Each.{zero-none, zero_turn, quarters}
+use Rattle.sides.proofs.Each.{zero_none, zero_turn, quarters}
 use Rattle.sides.proofs.zeros.Goals as goal
 
 pub loop-i-init : goal.loop-i-init
-loop-i-init c = (omega arith, sym (zero-none _ _), sym (zero-none _ _), sym (zero-none _ _), sym (zero-none _ _))
+loop-i-init c = (omega arith, sym (zero_none _ _), sym (zero_none _ _), sym (zero_none _ _), sym (zero_none _ _))
 
 pub loop-i-preserved : goal.loop-i-preserved
 loop-i-preserved c =

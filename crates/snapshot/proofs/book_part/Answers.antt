@@ -1,5 +1,5 @@
 -- Six fields, one after the other. Assumes nothing.
-use Rattle.pen.proofs.Laws.{last-field, next_field}
+use Rattle.pen.proofs.Laws.{last_field, next_field}
 use native.Mathlib.Omega.{arith}
 use Rattle.snapshot.proofs.book_part.Goals as goal
 
@@ -11,6 +11,6 @@ returns c =
     let x = c.number_field-e.ensures in
     let y = c.number_field-f.ensures in
     let z = c.number_field.ensures in (
-      next_field _ _ u.0 (next_field _ _ v.0 (next_field _ _ w.0 (next_field _ _ x.0 (next_field _ _ y.0 (last-field _ z.0))))),
+      next_field _ _ u.0 (next_field _ _ v.0 (next_field _ _ w.0 (next_field _ _ x.0 (next_field _ _ y.0 (last_field _ z.0))))),
       omega (arith, u.1, v.1, w.1, x.1, y.1, z.1),
     )

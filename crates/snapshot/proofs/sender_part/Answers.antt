@@ -1,5 +1,5 @@
 -- Five fields, one after the other. Assumes nothing.
-use Rattle.pen.proofs.Laws.{last-field, next_field}
+use Rattle.pen.proofs.Laws.{last_field, next_field}
 use native.Mathlib.Omega.{arith}
 use Rattle.snapshot.proofs.sender_part.Goals as goal
 
@@ -10,6 +10,6 @@ returns c =
     let w = c.bytes_field-d.ensures in
     let x = c.number_field-e.ensures in
     let y = c.moment_field.ensures in (
-      next_field _ _ u.0 (next_field _ _ v.0 (next_field _ _ w.0 (next_field _ _ x.0 (last-field _ y.0)))),
+      next_field _ _ u.0 (next_field _ _ v.0 (next_field _ _ w.0 (next_field _ _ x.0 (last_field _ y.0)))),
       omega (arith, u.1, v.1, w.1, x.1, y.1),
     )

@@ -1,7 +1,7 @@
 -- `find` meets its contract: none before i has the SecurityID.
 use Rattle.store.specs.Meaning.{inst_at, board_of}
 use Rattle.board.specs.Board.{look}
-use Rattle.cells.proofs.Tables.{tab-turn, tab-end}
+use Rattle.cells.proofs.Tables.{tab_turn, tab_end}
 use Rattle.cells.specs.Cells.{tab}
 use lib.ListN.{drop}
 use borrow.Author.Tests.{eq-eqb, ne_eqb}
@@ -22,7 +22,7 @@ returns-then-store-i c =
     let a = c.args in
     let f = inst_at a.h.marks a.store.now in
     let e : look a.id (tab f a.h.followed) ≡ look a.id (f l.i ∷ drop (l.i + 1) (tab f a.h.followed)) + l.i =
-    rw (tab-turn f a.h.followed l.i (omega arith)) at (l.invariant.1 a.h.marks) in
+    rw (tab_turn f a.h.followed l.i (omega arith)) at (l.invariant.1 a.h.marks) in
     (sym (e ∙ rw (eq-eqb _ _ c.if-store-i.true) (zero-add l.i)), omega arith)
 
 pub loop-i-preserved : goal.loop-i-preserved
@@ -34,7 +34,7 @@ loop-i-preserved c =
       λ m.
           let f = inst_at m a.store.now in
           let e : look a.id (tab f a.h.followed) ≡ look a.id (f l.i ∷ drop (l.i + 1) (tab f a.h.followed)) + l.i =
-          rw (tab-turn f a.h.followed l.i (omega arith)) at (l.invariant.1 m) in
+          rw (tab_turn f a.h.followed l.i (omega arith)) at (l.invariant.1 m) in
           e ∙ rw (ne_eqb _ _ c.if-store-i.false) (omega arith),
     )
 
@@ -44,5 +44,5 @@ returns c =
     let l = c.loop-i in
     let a = c.args in
     let f = inst_at a.h.marks a.store.now in
-    let e : look a.id (tab f a.h.followed) ≡ look a.id [] + l.i = rw (tab-end f a.h.followed l.i (omega arith)) at (l.invariant.1 a.h.marks) in
+    let e : look a.id (tab f a.h.followed) ≡ look a.id [] + l.i = rw (tab_end f a.h.followed l.i (omega arith)) at (l.invariant.1 a.h.marks) in
     (omega arith, omega arith)

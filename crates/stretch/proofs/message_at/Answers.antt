@@ -4,7 +4,7 @@ use native.Mathlib.Omega.{arith}
 use lib.ListN.{length-drop}
 use Rattle.stretch.specs.Stretches.{stretch_of}
 use Rattle.stretch.proofs.Stretching.{too_short, other_byte}
-use Rattle.stretch.proofs.Running.{rest-is}
+use Rattle.stretch.proofs.Running.{rest_is}
 use Rattle.stretch.proofs.message_at.Goals as goal
 
 pub returns-then-n-at : goal.returns-then-n-at
@@ -16,4 +16,4 @@ returns-then-rec-at-ne56 c =
 
 pub returns : goal.returns
 returns c =
-    c.message_of.ensures ∙ ap stretch_of (rest-is c.args.rec.now c.args.at)
+    c.message_of.ensures ∙ ap stretch_of (rest_is c.args.rec.now c.args.at)

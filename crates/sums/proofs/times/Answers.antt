@@ -8,8 +8,8 @@ use borrow.Author.Tests.{le-leb, lt-leb}
 use Rattle.sums.specs.declared.Product.{Product}
 use Rattle.sums.proofs.times.Goals as goal
 
-no-units : (m u : ℕ) → u ≡ 0 → m * u ≡ 0
-no-units m u e = rw e (omega arith)
+no_units : (m u : ℕ) → u ≡ 0 → m * u ≡ 0
+no_units m u e = rw e (omega arith)
 
 fits_in : (m u room : ℕ) → (u ≡ 0 → ⊥) → m ≤ room / u → m * u ≤ room
 fits_in m u room z h = (le-div_iff_mul-le {k = u} {x = m} {y = room} (omega arith)).0 h
@@ -20,7 +20,7 @@ above m u room z h = (div-lt_iff_lt-mul {k = u} {x = room} {y = m} (omega arith)
 pub returns-then-units-eq0 : goal.returns-then-units-eq0
 returns-then-units-eq0 c =
     let a = c.args in
-    let z : a.m * a.units ≡ 0 = no-units a.m a.units c.if-units-eq0.true in
+    let z : a.m * a.units ≡ 0 = no_units a.m a.units c.if-units-eq0.true in
     rw (le-leb (a.m * a.units) a.room (omega arith)) (ap Product.Is (sym z))
 
 pub returns-then-room-units : goal.returns-then-room-units

@@ -1,11 +1,11 @@
 -- `fours` meets its contract: the places so far are joined.
 use Rattle.std.proofs.Common.{◌≡◌, ℕ, ◌+◌, ◌*◌, false, arith}
 use Rattle.sweep.specs.Quick.{Joins}
-use Rattle.sweep.proofs.Columned.{joins-none, joins-more}
+use Rattle.sweep.proofs.Columned.{joins_none, joins_more}
 use Rattle.sweep.proofs.fours.Goals as goal
 
 pub loop-i-init : goal.loop-i-init
-loop-i-init c = (omega arith, omega arith, λ full. joins-none _ _ _ _ _ _)
+loop-i-init c = (omega arith, omega arith, λ full. joins_none _ _ _ _ _ _)
 
 pub loop-i-preserved : goal.loop-i-preserved
 loop-i-preserved c =
@@ -15,7 +15,7 @@ loop-i-preserved c =
     let e : (l.i + 1) * 4 ≡ l.i * 4 + 4 = omega arith in
     let m : (full : ℕ) → Joins a.store.now a.at (l.i * 4 + 4) a.low full false a.c c.turn-acc.result =
     λ full.
-    joins-more a.store.now a.at (l.i * 4) (l.i * 4) a.low full false a.c l.acc c.turn-acc.result (omega arith) (l.invariant.2 full) (rw q at (c.turn-acc.ensures full))
+    joins_more a.store.now a.at (l.i * 4) (l.i * 4) a.low full false a.c l.acc c.turn-acc.result (omega arith) (l.invariant.2 full) (rw q at (c.turn-acc.ensures full))
     in
     (omega arith, omega arith, rw e m)
 

@@ -1,24 +1,24 @@
 -- `held_mixed` meets its contract: none of too few places is joined, and else each is, some of the last four twice.
 use Rattle.std.proofs.Common.{◌≡◌, ◌+◌, ◌-◌, ◌*◌, ◌/◌, true, arith}
 use Rattle.sweep.specs.Quick.{few_of}
-use Rattle.sweep.proofs.Columned.{joins-none, joins-more, few-all, few-none}
+use Rattle.sweep.proofs.Columned.{joins_none, joins_more, few_all, few_none}
 use Rattle.sweep.proofs.held_mixed.Goals as goal
 
 pub returns-then-n-lt4 : goal.returns-then-n-lt4
 returns-then-n-lt4 c =
     let a = c.args in
-    let q : a.n - few_of a.n ≡ 0 = omega (arith, few-all a.n c.if-n-lt4.true) in
-    rw q (joins-none _ _ _ _ _ _)
+    let q : a.n - few_of a.n ≡ 0 = omega (arith, few_all a.n c.if-n-lt4.true) in
+    rw q (joins_none _ _ _ _ _ _)
 
 pub returns-then-n-eq0 : goal.returns-then-n-eq0
 returns-then-n-eq0 c =
     let a = c.args in
-    let q : a.n - few_of a.n ≡ a.n / 4 * 4 = omega (arith, few-none a.n c.if-n-lt4.false, c.if-n-eq0.true) in
+    let q : a.n - few_of a.n ≡ a.n / 4 * 4 = omega (arith, few_none a.n c.if-n-lt4.false, c.if-n-eq0.true) in
     rw q c.fours_mixed-acc.ensures
 
 pub returns : goal.returns
 returns c =
     let a = c.args in
     let l = c.if-n-lt4.false in
-    let q : a.n - few_of a.n ≡ a.n - 4 + 4 = omega (arith, few-none a.n l, l) in
-    rw q (joins-more a.store.now a.at (a.n / 4 * 4) (a.n - 4) a.low a.full true a.c _ _ (omega (arith, l)) c.fours_mixed-acc.ensures c.turn_mixed.ensures)
+    let q : a.n - few_of a.n ≡ a.n - 4 + 4 = omega (arith, few_none a.n l, l) in
+    rw q (joins_more a.store.now a.at (a.n / 4 * 4) (a.n - 4) a.low a.full true a.c _ _ (omega (arith, l)) c.fours_mixed-acc.ensures c.turn_mixed.ensures)

@@ -1,7 +1,7 @@
 -- `mixed_way` meets its contract.
 use Rattle.std.proofs.Common.{arith}
-use Rattle.sweep.proofs.Columned.{limits-mixed}
+use Rattle.sweep.proofs.Columned.{limits_mixed}
 use Rattle.sweep.proofs.mixed_way.Goals as goal
 
 pub returns : goal.returns
-returns c full = limits-mixed _ full c.requires (omega (arith, c.ranges.most))
+returns c full = limits_mixed _ full c.requires (omega (arith, c.ranges.most))

@@ -2,7 +2,7 @@
 use Rattle.std.proofs.Common.{◌≡◌, ℕ, ◌+◌, ◌-◌, ◌*◌, ◌/◌, ◌<◌, true, get_or, sym, ◌∙◌, arith, eq-eqb}
 use Rattle.sides.specs.Side.{entry_scan, side_scan, room_of}
 use Rattle.sweep.specs.Quick.{few_of}
-use Rattle.sweep.proofs.Columned.{or_l, or_r, used, goes, side-fine, side-more}
+use Rattle.sweep.proofs.Columned.{or_l, or_r, used, goes, side_fine_lem, side_more}
 use Rattle.sweep.proofs.sweep.Goals as goal
 
 pub loop-j-init : goal.loop-j-init
@@ -37,10 +37,10 @@ loop-j-preserved c =
     in
     let few = rw c.few.ensures.0 at (sym c.places.ensures ∙ c.if-not-places.false) in
     let fine =
-    side-fine c.room_of.result a.most a.full xs (160 + l.j * 128) c.if-room_of-n.false held few
+    side_fine_lem c.room_of.result a.most a.full xs (160 + l.j * 128) c.if-room_of-n.false held few
     (sym c.behind.ensures ∙ eq-eqb c.behind.result 0 zero)
     in
-    side-more (λ (i : ℕ). side_scan (room_of a.marks (i / 2)) a.most a.full xs (160 + i * 128) ≡ true) a.from l.j
+    side_more (λ (i : ℕ). side_scan (room_of a.marks (i / 2)) a.most a.full xs (160 + i * 128) ≡ true) a.from l.j
     (l.invariant L (c.taken-c.ensures.columns e) none) (rw c.room_of.ensures.0 at fine)
 
 pub returns : goal.returns

@@ -1,6 +1,6 @@
 -- `tried` meets its contract: the sides up to where the first way goes are sound, and those from there on.
 use Rattle.std.proofs.Common.{sym, ◌∙◌, rules, eqb-true}
-use Rattle.sweep.proofs.Columned.{settles, sides-join}
+use Rattle.sweep.proofs.Columned.{settles, sides_join}
 use Rattle.sweep.proofs.tried.Goals as goal
 
 pub returns-then-first-n : goal.returns-then-first-n
@@ -23,4 +23,4 @@ returns c = λ e.
     settles c.mixed_way-mixed.result a.most a.full a.marks xs c.settled-first.result a.n c.sweep-2.result c.sweep-2.ensures (c.mixed_way-mixed.ensures a.full)
     (sym (eqb-true _ _ e) ∙ c.settled.ensures)
     in
-    sides-join a.most a.full a.marks xs c.settled-first.result a.n first second
+    sides_join a.most a.full a.marks xs c.settled-first.result a.n first second

@@ -3,7 +3,7 @@ use Rattle.taking.proofs.Turns.{passes, goes_on_lem, stops}
 use Rattle.taking.specs.Replays.{replay_b}
 use Rattle.terms.specs.Terms.{due}
 use Rattle.store.specs.Meaning.{queued_at}
-use Rattle.cells.proofs.Tables.{tab-end}
+use Rattle.cells.proofs.Tables.{tab_end}
 use Rattle.book.specs.Sides.{book_step}
 use native.Mathlib.Omega.{arith}
 use mathlib.Core.Bool.{true, false}
@@ -49,4 +49,4 @@ unfolding replay_b
 returns c =
     let l = c.loop-k in
     let a = c.args in
-    rw (tab-end (queued_at a.store.now) a.q l.k (omega arith)) at l.invariant.1
+    rw (tab_end (queued_at a.store.now) a.q l.k (omega arith)) at l.invariant.1

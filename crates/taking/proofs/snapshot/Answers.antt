@@ -1,6 +1,6 @@
 -- `snapshot` meets its contract: refused, or taken if its sides are not too wide.
-use Rattle.taking.proofs.Board.{not-refused}
-use Rattle.taking.proofs.Ways.{it-refused, it-admitted}
+use Rattle.taking.proofs.Board.{not_refused}
+use Rattle.taking.proofs.Ways.{it_refused, it_admitted}
 use Rattle.taking.specs.Replays.{snap_at_s, snap_s}
 use Rattle.store.specs.Meaning.{st}
 use Rattle.cells.specs.Runs.{updates_in}
@@ -15,7 +15,7 @@ returns-then-no-ne0 c =
     let a = c.args in
     let s = st a.h a.store.now in
     let us = updates_in a.run.now a.count in
-    it-refused c.find-i.result a.last us s c.refusal-no.result c.refusal-no.ensures c.if-no-ne0.true
+    it_refused c.find-i.result a.last us s c.refusal-no.result c.refusal-no.ensures c.if-no-ne0.true
     ∙ ap (λ (i : ℕ). snap_at_s i a.last us s) c.find-i.ensures.0
 
 pub take_shown-requires : goal.take_shown-requires
@@ -24,7 +24,7 @@ take_shown-requires c =
     let p = c.requires in
     let i = c.find-i.result in
     let l : i < a.h.followed =
-    not-refused a.last (updates_in a.run.now a.count) (st a.h a.store.now) p.0 i (sym c.refusal-no.ensures ∙ c.if-no-ne0.false) in
+    not_refused a.last (updates_in a.run.now a.count) (st a.h a.store.now) p.0 i (sym c.refusal-no.ensures ∙ c.if-no-ne0.false) in
     let few = p.0.few in
     (p.0.long, p.0.room, omega arith, p.1)
 
@@ -34,5 +34,5 @@ returns c =
     let a = c.args in
     let s = st a.h a.store.now in
     let us = updates_in a.run.now a.count in
-    c.take_shown.ensures ∙ it-admitted c.find-i.result a.last us s c.refusal-no.result c.refusal-no.ensures c.if-no-ne0.false
+    c.take_shown.ensures ∙ it_admitted c.find-i.result a.last us s c.refusal-no.result c.refusal-no.ensures c.if-no-ne0.false
     ∙ ap (λ (i : ℕ). snap_at_s i a.last us s) c.find-i.ensures.0

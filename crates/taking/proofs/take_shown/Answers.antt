@@ -10,7 +10,7 @@ use borrow.Author.Tests.{lt-ltb, le-ltb}
 use lib.ListN.{length}
 use native.Mathlib.Omega.{arith}
 use mathlib.Core.Path.{◌≡◌, ap, ◌∙◌}
-use Rattle.taking.proofs.Showing.{book-by}
+use Rattle.taking.proofs.Showing.{book_by}
 use Rattle.taking.proofs.take_shown.Goals as goal
 
 pub returns-then-bids-gt-PLACES : goal.returns-then-bids-gt-PLACES
@@ -35,6 +35,6 @@ returns c =
     let n : c.show-bids.result.held ≡ length (entries_of 0 us) = ap (λ (x : Side). x.held) c.show-bids.ensures in
     let m : c.show-offers.result.held ≡ length (entries_of 1 us) = ap (λ (x : Side). x.held) c.show-offers.ensures in
     let b : ◌≡◌ {A = Book} (record { bids = c.show-bids.result; offers = c.show-offers.result }) (book_of (shown us))
-    = book-by c.show-bids.ensures c.show-offers.ensures in
+    = book_by c.show-bids.ensures c.show-offers.ensures in
     rw (le-ltb 20 (length (entries_of 0 us)) (omega (arith, n, c.if-bids-gt-PLACES.false)), le-ltb 20 (length (entries_of 1 us)) (omega (arith, m, c.if-offers-gt-PLACES.false)))
     (c.take.ensures ∙ ap (λ (x : Book). take_s a.i a.last x (st a.h a.store.now)) b)

@@ -1,6 +1,6 @@
 use native.Mathlib.Omega.{arith}
 use Rattle.text.specs.Text.{decimal}
-use Rattle.text.proofs.Written.{length-fixed}
+use Rattle.text.proofs.Written.{length_fixed}
 use Rattle.text.proofs.put_decimal.Goals as goal
 
 pub returns : goal.returns
@@ -9,4 +9,4 @@ returns c =
     let w = c.width-w.ensures in
     let e = c.put_fixed.ensures.0 in
     let x = c.args in
-    (record { same = rw w.0 at e.same; next = rw w.0 at e.next }, omega (arith, e.next, length-fixed c.width-w.result x.n))
+    (record { same = rw w.0 at e.same; next = rw w.0 at e.next }, omega (arith, e.next, length_fixed c.width-w.result x.n))

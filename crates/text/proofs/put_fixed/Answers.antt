@@ -2,7 +2,7 @@ use mathlib.Core.Path.{◌≡◌, refl, ◌∙◌}
 use Prim.Native.Nat.{◌+◌, ◌-◌}
 use native.Mathlib.Omega.{arith}
 use Rattle.text.specs.Text.{fixed}
-use Rattle.text.proofs.Written.{back-turn, length-fixed}
+use Rattle.text.proofs.Written.{back_turn, length_fixed}
 use Rattle.text.proofs.put_fixed.Goals as goal
 
 pub loop-i-init : goal.loop-i-init
@@ -14,7 +14,7 @@ loop-i-preserved c =
     let x = c.args in
     let q : l.i - 1 + 1 ≡ l.i = omega arith in (
       omega arith,
-      rw c.put.ensures.same (rw q at (back-turn l.out x.at (l.i - 1) l.m _ c.ascii.ensures)) ∙ l.invariant.1,
+      rw c.put.ensures.same (rw q at (back_turn l.out x.at (l.i - 1) l.m _ c.ascii.ensures)) ∙ l.invariant.1,
       c.put.auto.out ∙ l.invariant.2,
     )
 
@@ -26,4 +26,4 @@ unfolding fixed
 returns c =
     let l = c.loop-i in
     let z : l.i ≡ 0 = omega arith in
-    (record { same = rw z at l.invariant.1; next = rw length-fixed refl }, refl)
+    (record { same = rw z at l.invariant.1; next = rw length_fixed refl }, refl)

@@ -3,7 +3,7 @@ use mathlib.Core.Path.{sym}
 use native.Mathlib.Omega.{arith}
 use Rattle.tags.specs.Slots.{slot_of, marked}
 use Rattle.values.specs.Values.{moment_in}
-use Rattle.values.proofs.Texts.{moment-fits}
+use Rattle.values.proofs.Texts.{moment_fits}
 use Rattle.values.proofs.moment.Goals as goal
 
 pub returns-in_default : goal.returns-in_default
@@ -22,11 +22,11 @@ returns-in_default-time c =
 
 pub overflow_mul-result : goal.overflow_mul-result
 overflow_mul-result c =
-    let m = moment-fits _ _ (sym c.in-Is.ensures) (sym c.in-Is-time.ensures) in omega arith
+    let m = moment_fits _ _ (sym c.in-Is.ensures) (sym c.in-Is-time.ensures) in omega arith
 
 pub overflow_add-result : goal.overflow_add-result
 overflow_add-result c =
-    let m = moment-fits _ _ (sym c.in-Is.ensures) (sym c.in-Is-time.ensures) in omega arith
+    let m = moment_fits _ _ (sym c.in-Is.ensures) (sym c.in-Is-time.ensures) in omega arith
 
 pub returns : goal.returns
 unfolding moment_in marked slot_of

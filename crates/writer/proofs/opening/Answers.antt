@@ -1,5 +1,5 @@
 -- 8, then 9. Assumes nothing.
-use Rattle.pen.proofs.Laws.{last-field, next_field}
+use Rattle.pen.proofs.Laws.{last_field, next_field}
 use native.Mathlib.Omega.{arith}
 use Rattle.writer.proofs.opening.Goals as goal
 
@@ -7,4 +7,4 @@ pub returns : goal.returns
 returns c =
     let u = c.bytes_field-a.ensures in
     let v = c.number_field.ensures in
-    (next_field _ _ u.0 (last-field _ v.0), omega (arith, u.1, v.1))
+    (next_field _ _ u.0 (last_field _ v.0), omega (arith, u.1, v.1))

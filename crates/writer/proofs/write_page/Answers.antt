@@ -3,7 +3,7 @@ use Prim.Native.Nat.{◌+◌, ◌≤◌, ◌<◌}
 use Rattle.book.specs.Canonical.{lists_in}
 use Rattle.chain.specs.Bytes.{bytes_of}
 use Rattle.text.specs.Text.{width_of}
-use Rattle.writer.proofs.Pages.{short-written, short-after, done-written, done-after}
+use Rattle.writer.proofs.Pages.{short_written, short_after, done_written, done_after}
 use Rattle.snapshot.specs.Snapshot.{snapshot_fields, snapshot_bytes}
 use Rattle.snapshot.specs.Writing.{letter}
 use lib.ListN.{length}
@@ -20,7 +20,7 @@ returns-then-out-n c =
     let n = dry.result in
     let size : n ≡ length (bytes_of fs) = omega (arith, dry.ensures.0.next) in
     let h : length x.out.now < n + width_of n + 20 = rw (← c.width-w.ensures.0) c.if-out-n.true in
-    record { value = sym (short-written fs n size x.out.now h); out_after = sym (short-after fs n size x.out.now h) }
+    record { value = sym (short_written fs n size x.out.now h); out_after = sym (short_after fs n size x.out.now h) }
 
 pub returns : goal.returns
 unfolding snapshot_bytes
@@ -36,6 +36,6 @@ returns c =
     let s = c.sum-s.ensures in
     let w = c.fixed_field-e.ensures.0 in
     record {
-      value = done-written fs n size x.out.now _ _ _ _ _ _ _ h u v s w;
-      out_after = done-after fs n size x.out.now _ _ _ _ _ _ _ h u v s w;
+      value = done_written fs n size x.out.now _ _ _ _ _ _ _ h u v s w;
+      out_after = done_after fs n size x.out.now _ _ _ _ _ _ _ h u v s w;
     }
