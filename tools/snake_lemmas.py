@@ -8,7 +8,7 @@ usage: python3 tools/snake_lemmas.py [FOLDER]
 Run once at the top of the repository, after tools/snake_names.py. It renames, in crates/, every name with a dash that an .antt file
 declares and that begins with a small letter: a definition, a lemma, a field, a local one. The answers' goals, which the check names, keep
 their dashes, and so do the library's names, in each file that takes them from it. A lemma whose name a definition or a function has by
-this gets `_lem` behind it. The sources, the edits and the pages follow. A second run changes nothing.
+this gets `_lem` behind it, and two messages of samples `_bytes`. The sources, the edits and the pages follow. A second run changes nothing.
 """
 
 import os
@@ -58,8 +58,6 @@ def main(root):
             plain |= {w.strip() for w in m.group(2).split(",")} if m else set()
     for path in files(crates, ".rt"):
         plain |= set(re.findall(r"\bfn (\w+)", read(path)))
-    if not dashed:
-        return
     table = {}
     for name in dashed:
         new = name.replace("-", "_")
@@ -70,6 +68,10 @@ def main(root):
         write(path, WORD.sub(lambda m: m.group(0) if m.group(0) in library else table.get(m.group(0), m.group(0)), text))
     for path in [os.path.join(root, "README.md"), *files(os.path.join(root, "docs"), ".md"), *files(os.path.join(root, "second"), ".md")]:
         write(path, re.sub(r"`[^`\n]+`", lambda m: WORD.sub(lambda w: table.get(w.group(0), w.group(0)), m.group(0)), read(path)))
+    # Two that are no lemmas but messages as bytes.
+    for crate in ("samples", "promises"):
+        for path in files(os.path.join(crates, crate), ".antt", ".edit"):
+            write(path, re.sub(r"\b(empty_book|all_empty)_lem\b", r"\1_bytes", read(path)))
 
 
 main(sys.argv[1] if len(sys.argv) > 1 else ".")

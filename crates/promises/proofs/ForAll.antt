@@ -24,7 +24,7 @@ use Rattle.sound.specs.Sound.{sound}
 use Rattle.opening.specs.Opening.{open_store}
 use Rattle.feed.specs.Feeding as bytes
 use Rattle.feed.proofs.Laws.{feed_keeps_sound, feed_is_channel}
-use Rattle.samples.specs.Messages.{two_of_two, all_empty_lem}
+use Rattle.samples.specs.Messages.{two_of_two, all_empty_bytes}
 use Rattle.samples.specs.Says.{bid_2, first_says, second_says, one_says, two_says, all_says}
 use Rattle.samples.proofs.Read.{says_first, says_second, says_one_of_two, says_two_of_two, says_all_empty, bad_with_22, bad_with_207, bad_bid_without_48}
 use Rattle.promises.specs.Acts.{lefts, call_of}
@@ -80,9 +80,9 @@ unfolding applied after_action after_new after_change any_waiting waiting_in loo
 is_left = record { answer = refl; live = refl; waits = refl; last = refl; heard = refl; queued = refl; kind = refl; whole = refl }
 
 -- the bytes on such a channel
-all_fed : bytes.fed all_empty_lem stood ≡ left
+all_fed : bytes.fed all_empty_bytes stood ≡ left
 unfolding bytes.fed
-all_fed = ap (λ (n : ℕ). given (message_in n all_empty_lem) stood) stood_kind ∙ ap (λ (m : Message). given m stood) says_all_empty
+all_fed = ap (λ (n : ℕ). given (message_in n all_empty_bytes) stood) stood_kind ∙ ap (λ (m : Message). given m stood) says_all_empty
 
 -- and those of the loop's last snapshot behind it
 end_fed : bytes.fed two_of_two left.channel ≡ given two_says left.channel
@@ -96,12 +96,12 @@ hut_is_emptied xs e =
     let o = lefts before (open_store 0 ours xs) in
     let k = holds 0 before (open_store 0 ours xs) (opened_channel 0 ours) (starts 0 ours xs e) in
     let p : channel_at o ≡ stood = k.same ∙ ap (λ (cs : List Call). calls cs (opened_channel 0 ours)) calls_made in
-    let f : bytes.fed all_empty_lem (channel_at o) ≡ left = ap (bytes.fed all_empty_lem) p ∙ all_fed in
-    let z = bytes.feed_store all_empty_lem o in
-    let y : channel_at z ≡ left.channel = feed_is_channel all_empty_lem o k.sound ∙ ap (λ (r : Reply). r.channel) f in
+    let f : bytes.fed all_empty_bytes (channel_at o) ≡ left = ap (bytes.fed all_empty_bytes) p ∙ all_fed in
+    let z = bytes.feed_store all_empty_bytes o in
+    let y : channel_at z ≡ left.channel = feed_is_channel all_empty_bytes o k.sound ∙ ap (λ (r : Reply). r.channel) f in
     let q : board_at z ≡ left.channel.board = ap (λ (c : Channel). c.board) y in
     let w : channel_at (bytes.feed_store two_of_two z) ≡ (given two_says left.channel).channel =
-    feed_is_channel two_of_two z (feed_keeps_sound all_empty_lem o k.sound) ∙ ap (λ (r : Reply). r.channel) (ap (bytes.fed two_of_two) y ∙ end_fed) in
+    feed_is_channel two_of_two z (feed_keeps_sound all_empty_bytes o k.sound) ∙ ap (λ (r : Reply). r.channel) (ap (bytes.fed two_of_two) y ∙ end_fed) in
     record {
       shows = ap (λ (c : Channel). (inst 7 c.board).book) p ∙ stood_shows;
       answer = rw k.sound (ap (λ (r : Reply). r.answer + 256 * waiting_in r.channel.board.insts) f ∙ is_left.answer);

@@ -32,7 +32,7 @@ use Rattle.send.specs.Send.{message, arguments_fine, page_for, sent_page, send_o
 use Rattle.roundtrip.proofs.Marked.{the_message}
 use Rattle.fields.specs.Messages.{message_in}
 use Rattle.feed.specs.Feeding.{fed}
-use Rattle.samples.specs.Messages.{empty_book_lem, first, second, third, at_1, at_2, at_4}
+use Rattle.samples.specs.Messages.{empty_book_bytes, first, second, third, at_1, at_2, at_4}
 use Rattle.samples.specs.Says.{bid_1, bid_2, offer_3, first_says, second_says, third_says, shows}
 use Rattle.samples.proofs.Read as read
 use Rattle.promises.specs.Marked.{zero, one, two, three, took_empty, heard_first, on_the_day, at_one, HeardAtOne, QuotedWith, Writes, MarkedCases}
@@ -155,7 +155,7 @@ heard = (given first_says took).channel
 
 module _ (xs : List ℕ) (e : open_answer 0 (7 ∷ []) xs ≡ 0) where
   holds_took : Holds 0 (took_empty xs) took
-  holds_took = rw read.says_empty at (recovery.after 0 (feeds empty_book_lem) (open_store 0 (7 ∷ []) xs) zero (starts 0 (7 ∷ []) xs e))
+  holds_took = rw read.says_empty at (recovery.after 0 (feeds empty_book_bytes) (open_store 0 (7 ∷ []) xs) zero (starts 0 (7 ∷ []) xs e))
 
   holds_heard : Holds 0 (heard_first xs) heard
   holds_heard = rw read.says_first at (recovery.after 0 (feeds first) (took_empty xs) took holds_took)
@@ -184,11 +184,11 @@ unfolding applied after_action after_new any_waiting look joining hit give gives
 m13_heard xs e = one_is ∙ sym (ap (λ (c : Channel). Number.Is c.board.heard) (holds_heard xs e).same)
 
 -- the page of that board is the message
-page_is : page_for (Number.Is 64968180540000) 7 (83 ∷ 72 ∷ 69 ∷ 68 ∷ []) (89 ∷ 65 ∷ 82 ∷ 68 ∷ []) 1 1 took.board ≡ message empty_book_lem
+page_is : page_for (Number.Is 64968180540000) 7 (83 ∷ 72 ∷ 69 ∷ 68 ∷ []) (89 ∷ 65 ∷ 82 ∷ 68 ∷ []) 1 1 took.board ≡ message empty_book_bytes
 unfolding applied after_action after_new any_waiting look joining hit give gives count number entries_of run after take snap feed arguments_fine is_id given in_row is_whole with_name lower at_end ends ended marked with_mark
 page_is = ap message the_message
 
-m14_written : Writes empty_book_lem
+m14_written : Writes empty_book_bytes
 unfolding send_out sent_page out_after
 m14_written xs room e l =
     let h = holds_took xs e in

@@ -20,7 +20,7 @@ use Rattle.opening.specs.Opening.{open_answer, open_store}
 use Rattle.feed.specs.Feeding.{fed, feed_store}
 use Rattle.ask.specs.Ask.{quote_size, quote_answer}
 use Rattle.send.specs.Send.{send_out}
-use Rattle.samples.specs.Messages.{empty_book_lem, point_alone, too_many_decimals, eight_decimals, first, second, third, at_1, at_2, at_4}
+use Rattle.samples.specs.Messages.{empty_book_bytes, point_alone, too_many_decimals, eight_decimals, first, second, third, at_1, at_2, at_4}
 use Rattle.samples.specs.Says.{bid_2, offer_3, eight_says}
 
 -- M11: a fresh channel that follows 7, and what three messages leave of it.
@@ -39,7 +39,7 @@ three = (fed second two).channel
 -- M13 and M14: any store that opening takes for 7, once it has taken the empty book, and once it has then heard message 1, which
 -- was sent at 13:00:00.000.
 abbrev pub took_empty : List ℕ → List ℕ
-took_empty xs = feed_store empty_book_lem (open_store 0 (7 ∷ []) xs)
+took_empty xs = feed_store empty_book_bytes (open_store 0 (7 ∷ []) xs)
 
 abbrev pub heard_first : List ℕ → List ℕ
 heard_first xs = feed_store first (took_empty xs)
@@ -113,6 +113,6 @@ pub record MarkedCases : Type 0 where
   pub m13_old : QuotedWith 24 (49 ∷ 51 ∷ 58 ∷ 48 ∷ 48 ∷ 58 ∷ 51 ∷ 48 ∷ 46 ∷ 48 ∷ 48 ∷ 49 ∷ [])
   pub m13_ahead : QuotedWith 23 (49 ∷ 50 ∷ 58 ∷ 53 ∷ 57 ∷ 58 ∷ 53 ∷ 57 ∷ 46 ∷ 57 ∷ 57 ∷ 57 ∷ [])
   -- the message for an empty book is what the writer writes; it has 110 bytes, and those before tag 10 sum to 29
-  pub m14_written : Writes empty_book_lem
-  pub m14_length : length empty_book_lem ≡ 110
-  pub m14_sum : total (take 103 empty_book_lem) % 256 ≡ 29
+  pub m14_written : Writes empty_book_bytes
+  pub m14_length : length empty_book_bytes ≡ 110
+  pub m14_sum : total (take 103 empty_book_bytes) % 256 ≡ 29

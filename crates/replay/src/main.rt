@@ -217,15 +217,19 @@ fn replay(out: &mut impl Write, file: &mut impl Read, store: &mut [u64]) -> io::
     Ok(())
 }
 
-// Replays a recording on a store of zeros.
-fn replay_file<R: Files>(rt: &R, out: &mut impl Write, path: &str) -> io::Result<()> {
-    let mut file = fs::open(rt, path)?;
-    let mut store = [0u64; STORE];
-    replay(out, &mut file, &mut store)
+// Replays a recording on a store of zeros. One that cannot be opened is told on standard error, and passed over.
+fn replay_file<R: Files + Eprint>(rt: &R, out: &mut impl Write, path: &str) -> io::Result<()> {
+    match fs::open(rt, path) {
+        Ok(mut file) => {
+            let mut store = [0u64; STORE];
+            replay(out, &mut file, &mut store)
+        }
+        Err(error) => eprintln!(rt; "{path}: {error}"),
+    }
 }
 
 // Replays the recording that an argument names, under a line with its name.
-fn recording<R: Files>(rt: &R, out: &mut impl Write, path: &str) -> io::Result<()> {
+fn recording<R: Files + Eprint>(rt: &R, out: &mut impl Write, path: &str) -> io::Result<()> {
     lines::title(out, path.as_bytes())?;
     replay_file(rt, out, path)
 }

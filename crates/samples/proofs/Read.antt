@@ -19,14 +19,14 @@ use Rattle.message.specs.declared.Refusal.TheVariants.{BadFields}
 use Rattle.group.specs.Groups.{group_of, each, running}
 use Rattle.lead.specs.Messages.{changes_of, head_of, snapshot_of, or_bad_fields, typed_as}
 use Rattle.fields.specs.Messages.{message_in}
-use Rattle.samples.specs.Messages.{empty_book_lem, point_alone, too_many_decimals, eight_decimals, first, second, third, at_1, at_2, at_4, one_of_two, two_of_two, fourth, all_empty_lem, all_empty_22, all_empty_207, bid_without_48}
+use Rattle.samples.specs.Messages.{empty_book_bytes, point_alone, too_many_decimals, eight_decimals, first, second, third, at_1, at_2, at_4, one_of_two, two_of_two, fourth, all_empty_bytes, all_empty_22, all_empty_207, bid_without_48}
 use Rattle.samples.specs.Says.{bid_1, bid_2, eight_says, first_says, second_says, third_says, shows, one_says, two_says, fourth_says, all_says}
 
 -- the message has 110 bytes and says an empty book
-pub sized : length empty_book_lem ≡ 110
+pub sized : length empty_book_bytes ≡ 110
 sized = refl
 
-pub says_empty : message_in 0 empty_book_lem ≡ snapshot (record { number = 1; heard = 64968180540000; id = 7; last = 0; loops = 1 }) []
+pub says_empty : message_in 0 empty_book_bytes ≡ snapshot (record { number = 1; heard = 64968180540000; id = 7; last = 0; loops = 1 }) []
 unfolding message_in typed_as or_bad_fields snapshot_of head_of group_of each running frame_of body_of fields_of cut field_of ranged_of whole_of digits_of bytes_of field_bytes decimal width_of width_to fixed tidy up_to past parts all_tidy lookup has stands moment_of date_of time_of clock_of minutes_of two_of is_date day_of leap months days_in days_to year_days days_before instrument_of bvmf
 says_empty = refl
 
@@ -82,7 +82,7 @@ unfolding message_in typed_as or_bad_fields changes_of snapshot_of head_of group
 says_fourth = refl
 
 -- ---- J without 48
-pub says_all_empty : message_in 0 all_empty_lem ≡ all_says
+pub says_all_empty : message_in 0 all_empty_bytes ≡ all_says
 unfolding message_in typed_as or_bad_fields changes_of group_of each frame_of body_of fields_of cut field_of ranged_of whole_of digits_of bytes_of field_bytes decimal width_of width_to fixed tidy up_to past parts all_tidy lookup has stands moment_of date_of time_of clock_of minutes_of two_of is_date day_of leap months days_in days_to year_days days_before instrument_of bvmf entry_in_x book_entry empty_book empty_all values_of sort_of price_of amount_of fraction_of
 says_all_empty = refl
 
