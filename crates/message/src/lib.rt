@@ -3,22 +3,88 @@
 #![tactic(auto)]
 
 ghost use Rattle.std.specs.Prelude.{◌≡◌};
-ghost use Rattle.message.specs.Message.{refused, told};
+ghost use Rattle.message.specs.Message.{refused, told, answer_of};
+ghost use Rattle.message.specs.Answers.{number_of};
 
 // 34, 369 and 911 are at most this.
 pub const MOST_NUMBER: u64 = 4294967295;
 
 // Why a message is not read.
-#[derive(Clone, Copy)]
+#[derive(Clone, Copy, PartialEq, Eq)]
 pub enum Refusal {
-    // 11
+    // The frame
     BadFrame,
-    // 12
+    // The checksum
     BadSum,
-    // 13
+    // The type
     BadType,
-    // 14
+    // Any breach under "Fields"
     BadFields,
+}
+
+impl From<Refusal> for u64 {
+    ghost from_gives = { λ why n. n ≡ answer_of why };
+
+    // The answer number of a message that is not read.
+    fn from(why: Refusal) -> u64 {
+        match why {
+            Refusal::BadFrame => 11,
+            Refusal::BadSum => 12,
+            Refusal::BadType => 13,
+            Refusal::BadFields => 14,
+        }
+    }
+}
+
+// What a feed answers.
+#[derive(Clone, Copy, PartialEq, Eq)]
+pub enum Answer {
+    // Counted in order
+    InOrder,
+    // A gap, counted
+    Gap,
+    // Old
+    Old,
+    // Counted, the queue let go
+    LetGo,
+    // The snapshot is taken
+    Taken,
+    // Snapshot: not followed
+    NotOurs,
+    // Snapshot: already Live
+    AlreadyLive,
+    // Snapshot: S below B
+    Below,
+    // Snapshot: S above H
+    Above,
+    // Snapshot: a side over 20 places
+    TooWide,
+    // Snapshot: the replay broke
+    Broke,
+    // Not read, and why
+    NotRead(Refusal),
+}
+
+impl From<Answer> for u64 {
+    ghost from_gives = { λ answer n. n ≡ number_of answer };
+
+    // The answer's number.
+    fn from(answer: Answer) -> u64 {
+        match answer {
+            Answer::InOrder => 0,
+            Answer::Gap => 1,
+            Answer::Old => 2,
+            Answer::LetGo => 3,
+            Answer::Taken => 4,
+            Answer::NotOurs => 5,
+            Answer::AlreadyLive => 6,
+            Answer::Below => 7,
+            Answer::Above => 8,
+            Answer::TooWide => 9,
+            Answer::Broke => 10,
+            Answer::NotRead(why) => u64::from(why),
+        }
+    }
 }
 
 // How the reading ended.
