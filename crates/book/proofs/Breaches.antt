@@ -1,5 +1,5 @@
 -- When an action is a breach of a side, what a side that does not refuse it has, and what the action then leaves.
-use mathlib.Core.Path.{◌≡◌, refl, sym}
+use mathlib.Core.Path.{◌≡◌, refl, ap, ◌∙◌, sym}
 use mathlib.Core.Bool.{true, cond}
 use mathlib.Core.List.{List, ◌∷◌, ◌++◌}
 use Prim.Native.Nat.{ℕ, ◌+◌, ◌-◌, ◌≤◌, ◌<◌}
@@ -10,9 +10,12 @@ use lib.ListN.{take, drop}
 use borrow.Author.Tests.{eqb-true, eqb-false, ne_eqb, ltb-true, lt-ltb, leb-true, le-leb, lt-leb}
 use Rattle.book.specs.declared.Entry.{Entry}
 use Rattle.book.specs.declared.Side.{Side}
-use Rattle.book.specs.declared.Done.{Done}
+use Rattle.std.specs.Prelude.{Err}
+use Rattle.book.specs.declared.reasons.Breach.{Breach}
+use Rattle.book.specs.declared.reasons.Breach.TheVariants.{Place, Room}
+use Rattle.book.specs.Results.{reason_number, done_from}
 use Rattle.book.specs.Rules.{most_places, bad_place, is_place}
-use Rattle.book.specs.Sides.{done, refused, held_at, new_at, change_at, delete_at, delete_thru, delete_from, side_step, breach_of, first_changed}
+use Rattle.book.specs.Sides.{Done, done, refused, held_at, new_at, change_at, delete_at, delete_thru, delete_from, side_step, breach_of, first_changed}
 use Rattle.book.proofs.Tests.{by_test, place_in, place_zero, place_is}
 use Rattle.book.proofs.Untouched.{side_answered}
 
@@ -107,6 +110,16 @@ pub step_refused : (s : Side) (action p : ℕ) (e : Entry) → (breach_of s.held
 step_refused s action p e h =
     let r = step_reason s action p e in
     done_by (sym ((side_answered s action p e).as_was (omega arith))) (sym r)
+
+-- the same for the breach that the code names
+pub refused_by : (s : Side) (action p : ℕ) (e : Entry) (why : Breach) → reason_number why ≡ breach_of s.held action p
+    → done_from s (Err why) ≡ side_step s action p e
+refused_by s action p e why h =
+    ap (λ (r : ℕ). refused r s) h ∙ step_refused s action p e (λ z. is_reason why (h ∙ z))
+  where
+    is_reason : (why : Breach) → reason_number why ≡ 0 → ⊥
+    is_reason Place z = omega arith
+    is_reason Room z = omega arith
 
 -- the side that an operation leaves, by its places
 pub left_by_lem : {a b : List Entry} {n : ℕ} {d : Done} → a ≡ b → d ≡ record { side = record { places = b; held = n }; reason = 0 }

@@ -9,9 +9,8 @@ use Rattle.book.specs.declared.Entry.{Entry}
 use Rattle.book.specs.declared.Side.{Side}
 use Rattle.book.specs.declared.Book.{Book}
 use Rattle.book.specs.declared.Update.{Update}
-use Rattle.book.specs.declared.Turn.{Turn}
 use Rattle.book.specs.Rules.{most_places, Outcome, leaves, breach, after_action}
-use Rattle.book.specs.Sides.{no_entry, new_at, change_at, delete_at, delete_thru, delete_from, side_step, book_step}
+use Rattle.book.specs.Sides.{Turn, no_entry, new_at, change_at, delete_at, delete_thru, delete_from, side_step, book_step}
 use Rattle.book.specs.Canonical.{Kept, KeptBook, held_in, done_of, All}
 use Rattle.book.proofs.Tests.{by_test}
 use Rattle.book.proofs.Canon.{held_of, kept_of, length_held, kept_no_side}

@@ -12,10 +12,8 @@ use Rattle.book.specs.declared.Entry.{Entry}
 use Rattle.book.specs.declared.Side.{Side}
 use Rattle.book.specs.declared.Book.{Book}
 use Rattle.book.specs.declared.Update.{Update}
-use Rattle.book.specs.declared.Done.{Done}
-use Rattle.book.specs.declared.Turn.{Turn}
 use Rattle.book.specs.Rules.{most_places, bad_place, Outcome, leaves, breach, is_place, after_new, after_change, after_delete, after_thru, after_from, after_action, Lists, with_bids, with_offers, applied}
-use Rattle.book.specs.Sides.{no_entry, pad, done, refused, new_at, change_at, delete_at, delete_thru, delete_from, side_step, bids_done, offers_done, book_step}
+use Rattle.book.specs.Sides.{Done, Turn, no_entry, pad, done, refused, new_at, change_at, delete_at, delete_thru, delete_from, side_step, bids_done, offers_done, book_step}
 use Rattle.book.specs.Canonical.{Kept, KeptBook, held_in, side_of, lists_in, done_of, turn_of}
 use Rattle.book.proofs.Padding.{pad_unused, pad_append}
 use Rattle.book.proofs.Tests.{place_in, place_is}

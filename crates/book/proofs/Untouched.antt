@@ -12,10 +12,8 @@ use Rattle.book.specs.declared.Entry.{Entry}
 use Rattle.book.specs.declared.Side.{Side}
 use Rattle.book.specs.declared.Book.{Book}
 use Rattle.book.specs.declared.Update.{Update}
-use Rattle.book.specs.declared.Done.{Done}
-use Rattle.book.specs.declared.Turn.{Turn}
 use Rattle.book.specs.Rules.{most_places, bad_place, is_place}
-use Rattle.book.specs.Sides.{no_book, pad, refused, held_at, bids_done, offers_done, new_at, change_at, delete_at, delete_thru, delete_from, side_step, first_changed, book_step}
+use Rattle.book.specs.Sides.{Done, Turn, no_book, pad, refused, held_at, bids_done, offers_done, new_at, change_at, delete_at, delete_thru, delete_from, side_step, first_changed, book_step}
 use Rattle.book.proofs.Tests.{by_test}
 use Rattle.book.proofs.Padding.{take_pad}
 

@@ -4,10 +4,8 @@ use Rattle.std.specs.Prelude.{◌≡◌, List, [], ◌∷◌, ℕ, ◌≤◌, le
 use Rattle.book.specs.declared.Entry.{Entry}
 use Rattle.book.specs.declared.Side.{Side}
 use Rattle.book.specs.declared.Book.{Book}
-use Rattle.book.specs.declared.Done.{Done}
-use Rattle.book.specs.declared.Turn.{Turn}
 use Rattle.book.specs.Rules.{Outcome, leaves, breach, most_places, Lists}
-use Rattle.book.specs.Sides.{no_entry, pad}
+use Rattle.book.specs.Sides.{Done, Turn, no_entry, pad}
 
 -- A side has 20 places, holds at most 20, and its unused places are zero.
 pub record Kept (s : Side) : Type 0 where

@@ -5,9 +5,17 @@ use Rattle.book.specs.declared.Entry.{Entry}
 use Rattle.book.specs.declared.Side.{Side}
 use Rattle.book.specs.declared.Book.{Book}
 use Rattle.book.specs.declared.Update.{Update}
-use Rattle.book.specs.declared.Done.{Done}
-use Rattle.book.specs.declared.Turn.{Turn}
 use Rattle.book.specs.Rules.{most_places, bad_place, no_room, is_place}
+
+-- A side after an operation: reason 0 done, 1 place, 2 no room; with 1 and 2 the side is as it was.
+pub record Done : Type 0 where
+  pub side : Side
+  pub reason : ℕ
+
+-- The same for a book.
+pub record Turn : Type 0 where
+  pub book : Book
+  pub reason : ℕ
 
 -- The entry of an unused place.
 abbrev pub no_entry : Entry

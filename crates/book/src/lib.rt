@@ -6,6 +6,11 @@ ghost use Rattle.std.specs.Prelude.{◌≡◌, ◌∷◌, ◌++◌, ◌+◌, ◌
 ghost use Rattle.book.specs.Ids.{id_fine};
 ghost use Rattle.book.specs.Rules.{most_places};
 ghost use Rattle.book.specs.Sides.{no_entry, no_side, no_book, pad, breach_of, first_changed, side_step, book_step};
+ghost use Rattle.book.specs.Results.{breach_number, done_from, turn_from};
+
+mod reasons;
+
+pub use reasons::Breach;
 
 // The most places of a side; the arrays below have this many.
 pub const PLACES: usize = 20;
@@ -37,15 +42,6 @@ pub const DELETE_THRU: u64 = 3;
 // delete from removes a place up to the last; what is left of 0 to 4, delete, removes a place.
 pub const DELETE_FROM: u64 = 4;
 
-// Why a side is broken: it is not,
-pub const DONE: u64 = 0;
-
-// place,
-pub const BAD_PLACE: u64 = 1;
-
-// or else no room.
-pub const NO_ROOM: u64 = 2;
-
 // One place of a side. price is a whole number; its unit is nothing to a book. by and more are the two numbers of the order id,
 // or the number of orders and 0. moment is a date and time as one number. An unused place is all zero.
 #[derive(Clone, Copy)]
@@ -73,6 +69,8 @@ pub struct Book {
 
 // One entry of a message. who is the instrument: its SecurityID in a message, its index on a board; 0 where the entry is for all.
 // what: 0 bid, 1 offer, 2 J, 3 J for all. action: 0 new, 1 change, 2 delete, 3 delete thru, 4 delete from. Places count from 1.
+// Kept: what and action are numbers, since `cells::load_update` answers on any nine numbers of the lent store, and `apply` for every what
+// (J for each above 3) and every action (a breach of place for each above 4), as `book_step` and the theorems over it say.
 #[derive(Clone, Copy)]
 pub struct Update {
     pub who: u64,
@@ -80,20 +78,6 @@ pub struct Update {
     pub action: u64,
     pub place: usize,
     pub entry: Entry,
-}
-
-// A side after an operation. reason: 0 done, 1 place, 2 no room; with 1 and 2 the side is as it was.
-#[derive(Clone, Copy)]
-pub struct Done {
-    pub side: Side,
-    pub reason: u64,
-}
-
-// The same for a book.
-#[derive(Clone, Copy)]
-pub struct Turn {
-    pub book: Book,
-    pub reason: u64,
 }
 
 // Whether a number is a SecurityID.
@@ -185,30 +169,30 @@ fn put(a: [Entry; 20], at: usize, e: Entry) -> [Entry; 20]
     b
 }
 
-// Why a side that holds n places refuses an action at place p, 0 if it does not. The place is tested before the room,
-// and an action above 4 is a breach of place.
-pub fn breach(n: usize, action: u64, p: usize) -> u64
-    ensures { result ≡ breach_of n action p }
+// Whether a side that holds n places refuses an action at place p, and why. The place is tested before the room, and an action
+// above 4 is a breach of place.
+pub fn breach(n: usize, action: u64, p: usize) -> Result<(), Breach>
+    ensures { breach_number result ≡ breach_of n action p }
 {
     if p == 0 {
-        return BAD_PLACE;
+        return Err(Breach::Place);
     }
     if action == NEW {
         if n < p - 1 {
-            return BAD_PLACE;
+            return Err(Breach::Place);
         }
         if PLACES <= n {
-            return NO_ROOM;
+            return Err(Breach::Room);
         }
-        return DONE;
+        return Ok(());
     }
     if n < p {
-        return BAD_PLACE;
+        return Err(Breach::Place);
     }
     if DELETE_FROM < action {
-        return BAD_PLACE;
+        return Err(Breach::Place);
     }
-    DONE
+    Ok(())
 }
 
 // The index of the first place that an action may change, where the place that it names has the index `at`.
@@ -254,46 +238,27 @@ pub fn worked(s: Side, action: u64, p: usize, e: Entry) -> Side
 }
 
 // The operation that the action names, or its breach.
-fn on_side(s: Side, action: u64, p: usize, e: Entry) -> Done
-    ensures { result ≡ side_step s action p e }
+fn on_side(s: Side, action: u64, p: usize, e: Entry) -> Result<Side, Breach>
+    ensures { done_from s result ≡ side_step s action p e }
 {
-    let reason = breach(s.held, action, p);
-    if reason != DONE {
-        return Done { side: s, reason };
-    }
-    let t = worked(s, action, p, e);
-    Done { side: t, reason }
+    breach(s.held, action, p)?;
+    Ok(worked(s, action, p, e))
 }
 
 // One entry of a message on the book of its instrument: the side that it names is worked and the other stays; J
 // empties both.
-pub fn apply(b: Book, u: Update) -> Turn
-    ensures { result ≡ book_step b u }
+pub fn apply(b: Book, u: Update) -> Result<Book, Breach>
+    ensures { turn_from b result ≡ book_step b u }
 {
-    let e = u.entry;
-    let bids = b.bids;
-    let offers = b.offers;
-    if u.what == BID {
-        let d = on_side(bids, u.action, u.place, e);
-        let t = d.side;
-        let c = Book { bids: t, offers };
-        return Turn {
-            book: c,
-            reason: d.reason,
-        };
-    }
-    if u.what == OFFER {
-        let d = on_side(offers, u.action, u.place, e);
-        let t = d.side;
-        let c = Book { bids, offers: t };
-        return Turn {
-            book: c,
-            reason: d.reason,
-        };
-    }
-    let c = no_book();
-    Turn {
-        book: c,
-        reason: DONE,
+    match u.what {
+        BID => {
+            let bids = on_side(b.bids, u.action, u.place, u.entry)?;
+            Ok(Book { bids, ..b })
+        }
+        OFFER => {
+            let offers = on_side(b.offers, u.action, u.place, u.entry)?;
+            Ok(Book { offers, ..b })
+        }
+        _ => Ok(no_book()),
     }
 }

@@ -10,9 +10,8 @@ use lib.ListN.{length}
 use lib.Seq.{sets}
 use Rattle.book.specs.declared.Book.{Book}
 use Rattle.book.specs.declared.Update.{Update}
-use Rattle.book.specs.declared.Turn.{Turn}
 use Rattle.book.specs.Rules.{Lists}
-use Rattle.book.specs.Sides.{no_book, book_step}
+use Rattle.book.specs.Sides.{Turn, no_book, book_step}
 use Rattle.book.specs.Canonical.{KeptBook, lists_in}
 use borrow.Author.Tests.{eqb-true}
 use Rattle.book.proofs.Untouched.{a_bid, an_offer}

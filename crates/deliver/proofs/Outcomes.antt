@@ -10,9 +10,8 @@ use borrow.Author.Tests.{ne_eqb}
 use Rattle.book.specs.declared.Entry.{Entry}
 use Rattle.book.specs.declared.Book.{Book}
 use Rattle.book.specs.declared.Update.{Update}
-use Rattle.book.specs.declared.Turn.{Turn}
 use Rattle.book.specs.Rules.{Outcome, leaves, breach, is_place, after_new, after_change, after_delete, after_thru, after_from, after_action, Lists, with_bids, with_offers, applied}
-use Rattle.book.specs.Sides.{book_step}
+use Rattle.book.specs.Sides.{Turn, book_step}
 use Rattle.book.specs.Canonical.{KeptBook, lists_in, book_of, turn_of}
 use Rattle.book.proofs.Tests.{by_test}
 use Rattle.book.proofs.Canon.{held_of}

@@ -6,8 +6,7 @@ use lib.ListN.{length, take}
 use lib.Seq.{sets}
 use Rattle.book.specs.declared.Side.{Side}
 use Rattle.book.specs.declared.Update.{Update}
-use Rattle.book.specs.declared.Done.{Done}
-use Rattle.book.specs.Sides.{breach_of, first_changed}
+use Rattle.book.specs.Sides.{Done, breach_of, first_changed}
 use Rattle.book.proofs.Breaches.{step_reason, step_refused}
 use Rattle.book.proofs.Untouched.{before_changed}
 use Rattle.cells.specs.Cells.{side_at, side_words, side_size}

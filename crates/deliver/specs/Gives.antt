@@ -3,9 +3,8 @@ use Rattle.std.specs.Prelude.{cond, List, [], ◌∷◌, ℕ, zero, suc, leb, eq
 use Rattle.std.proofs.lemmas.List.Edits.{sets}
 use Rattle.book.specs.declared.Side.{Side}
 use Rattle.book.specs.declared.Update.{Update}
-use Rattle.book.specs.declared.Done.{Done}
 use Rattle.book.specs.Rules.{for_all}
-use Rattle.book.specs.Sides.{side_step}
+use Rattle.book.specs.Sides.{Done, side_step}
 use Rattle.cells.specs.Cells.{zeros, side_at, side_words}
 use Rattle.heading.specs.Marks.{marked, with_mark}
 use Rattle.heading.specs.Headings.{marks_now}

@@ -11,6 +11,7 @@ ghost use Rattle.store.specs.Steps.{gap_s};
 
 use heading::Heading;
 use loops::Loop;
+use message::Answer;
 
 // The store's numbers.
 pub const STORE: usize = 7168;
@@ -106,11 +107,11 @@ pub const NOT_FOLLOWED: u64 = 20;
 
 pub const WAITING: u64 = 21;
 
-// What a call answers, by document 01's number, and the heading that goes with the store it leaves.
+// What a call answers, and the heading that goes with the store it leaves.
 #[derive(Clone, Copy)]
 pub struct Fed {
     pub head: Heading,
-    pub answer: u64,
+    pub answer: Answer,
 }
 
 pub fn load_heading(store: &[u64]) -> Heading

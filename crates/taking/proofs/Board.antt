@@ -8,7 +8,7 @@ use lib.Dec.{ltb, leb, eqb}
 use lib.ListN.{length}
 use borrow.Author.Tests.{ltb-false, leb-true, leb-false, le-ltb, lt-ltb, eqb-false, eqb-true}
 use Rattle.book.specs.declared.Book.{Book}
-use Rattle.book.specs.declared.Turn.{Turn}
+use Rattle.book.specs.Sides.{Turn}
 use Rattle.book.specs.declared.Update.{Update}
 use Rattle.book.specs.Rules.{Outcome, leaves, breach, Lists}
 use Rattle.book.specs.Canonical.{KeptBook, lists_in, book_of}

@@ -5,9 +5,8 @@ use mathlib.Core.List.{List, [], ◌∷◌}
 use Prim.Native.Nat.{ℕ}
 use lib.Dec.{eqb}
 use Rattle.book.specs.declared.Book.{Book}
-use Rattle.book.specs.declared.Turn.{Turn}
 use Rattle.book.specs.Rules.{Outcome, leaves, breach, Lists}
-use Rattle.book.specs.Sides.{book_step}
+use Rattle.book.specs.Sides.{Turn, book_step}
 use Rattle.book.specs.Canonical.{KeptBook, lists_in}
 use Rattle.book.proofs.Tests.{by_test}
 use Rattle.book.proofs.Keeping.{kept_apply}

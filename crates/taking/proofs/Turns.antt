@@ -5,8 +5,7 @@ use Prim.Native.Nat.{ℕ, ◌+◌, ◌<◌}
 use lib.ListN.{drop}
 use borrow.Author.Tests.{eq-eqb, ne_eqb}
 use Rattle.book.specs.declared.Book.{Book}
-use Rattle.book.specs.declared.Turn.{Turn}
-use Rattle.book.specs.Sides.{book_step}
+use Rattle.book.specs.Sides.{Turn, book_step}
 use Rattle.cells.specs.Cells.{tab}
 use Rattle.cells.proofs.Tables.{tab_turn}
 use Rattle.board.specs.Board.{Queued}

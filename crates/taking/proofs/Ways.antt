@@ -5,7 +5,7 @@ use mathlib.Core.List.{List}
 use Prim.Native.Nat.{ℕ}
 use lib.Dec.{eqb}
 use borrow.Author.Tests.{eq-eqb, ne_eqb}
-use Rattle.book.specs.declared.Turn.{Turn}
+use Rattle.book.specs.Sides.{Turn}
 use Rattle.book.specs.declared.Update.{Update}
 use Rattle.store.specs.Meaning.{State}
 use Rattle.store.specs.Answers.{FedS, fed}

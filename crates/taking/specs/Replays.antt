@@ -2,9 +2,8 @@
 use Rattle.std.specs.Prelude.{cond, List, [], ◌∷◌, ℕ, eqb}
 use Rattle.std.proofs.lemmas.List.Edits.{sets}
 use Rattle.book.specs.declared.Book.{Book}
-use Rattle.book.specs.declared.Turn.{Turn}
 use Rattle.book.specs.declared.Update.{Update}
-use Rattle.book.specs.Sides.{book_step}
+use Rattle.book.specs.Sides.{Turn, book_step}
 use Rattle.book.specs.Canonical.{book_of}
 use Rattle.cells.specs.Cells.{tab, side_words}
 use Rattle.heading.specs.Marks.{without_mark}

@@ -4,7 +4,7 @@ use Rattle.taking.specs.Replays.{replayed_s, take_s}
 use Rattle.queue.specs.Joins.{settle_s}
 use Rattle.store.specs.Answers.{fed}
 use Rattle.store.specs.Meaning.{st}
-use Rattle.book.specs.declared.Turn.{Turn}
+use Rattle.book.specs.Sides.{Turn}
 use mathlib.Core.Path.{ap, ◌∙◌}
 use Rattle.taking.proofs.take.Goals as goal
 
