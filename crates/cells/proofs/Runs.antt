@@ -1,14 +1,14 @@
--- Laws of a message's entries as a run of numbers: none stand in it at the start, and one more is written behind the others.
+-- Laws of a message's entries as a run of numbers: none stand in it at the start, one more is written behind the others, and behind the last none is left.
 use mathlib.Core.Path.{◌≡◌, refl, ◌∙◌}
 use mathlib.Core.List.{List, [], ◌∷◌, ◌++◌}
 use Prim.Native.Nat.{ℕ, ◌+◌, ◌*◌, ◌≤◌}
 use native.Mathlib.Omega.{arith}
-use lib.ListN.{length}
+use lib.ListN.{length, drop}
 use lib.Seq.{sets}
 use Rattle.book.specs.declared.Update.{Update}
 use Rattle.cells.specs.Cells.{tab, update_words, update_at}
 use Rattle.cells.specs.Runs.{updates_in}
-use Rattle.cells.proofs.Tables.{tab_ext, tab_snoc}
+use Rattle.cells.proofs.Tables.{tab_ext, tab_snoc, tab_end}
 use Rattle.cells.proofs.Windows.{same_before, update_ext, update_own}
 
 -- none at the start
@@ -25,3 +25,7 @@ one_more run i u l =
     let b : tab f i ≡ updates_in run i =
     tab_ext f _ i (λ k q. update_ext ys (k * 9) run (k * 9) (same_before 9 run (i * 9) (update_words u) (k * 9) (omega arith))) in
     tab_snoc f i ∙ rw (b, update_own run (i * 9) u l)
+
+-- behind the last none is left
+pub none_left : (run : List ℕ) (n k : ℕ) → n ≤ k → drop k (updates_in run n) ≡ []
+none_left run n k h = tab_end (λ (i : ℕ). update_at run (i * 9)) n k h

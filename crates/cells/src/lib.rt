@@ -8,6 +8,8 @@ ghost use Rattle.cells.specs.Cells.{zeros, words, entry_at, side_size, side_word
 
 use book::{Entry, Side, Update};
 
+pub mod run;
+
 // The numbers of an entry.
 pub const ENTRY: usize = 5;
 
