@@ -2,7 +2,7 @@
 use mathlib.Core.Path.{◌≡◌, refl}
 use mathlib.Core.Bool.{Bool, true, false, cond, ◌&&◌}
 use mathlib.Core.List.{List, [], ◌∷◌, ◌++◌}
-use Prim.Native.Nat.{ℕ, zero, suc, ◌+◌, ◌-◌, ◌*◌, ◌/◌, ◌%◌, ◌^◌, ◌≤◌, ◌<◌}
+use Prim.Native.Nat.{ℕ, zero, suc, ◌+◌, ◌-◌, ◌*◌, ◌/◌, ◌%◌, ◌^◌, ◌≤◌, ◌<◌, max}
 use native.Mathlib.Nat.{pow-suc, pow-le-pow_right}
 use native.Mathlib.Omega.{arith}
 use native.Mathlib.Numerals.{add-one}
@@ -101,6 +101,25 @@ width_more k n w h l = go (ltb w (width_to k n)) refl
     go false e =
         let b : 10 ^ width_to k n ≤ 10 ^ w = pow-le-pow_right (omega arith) (ltb-false w (width_to k n) e) in
         absurd (omega (arith, width_lt k n h))
+
+-- the width is one more than the place of the leading digit
+width_at : (n k : ℕ) → n < 10 ^ 18 → 10 ^ k ≤ n → n < 10 * 10 ^ k → k + 1 ≡ width_of n
+unfolding width_of
+width_at n k h a b =
+    let low : width_to 17 n ≤ suc k = width_le 17 n (suc k) (omega arith) (rw pow-suc (omega arith)) in
+    omega (arith, width_more 17 n k h a)
+
+-- 0 is as wide as 1
+pub width_from_one : (n m k : ℕ) → m ≡ max n 1 → n < 10 ^ 18 → 10 ^ k ≤ m → m < 10 * 10 ^ k → (k + 1 ≡ width_of n) × (k + 1 ≤ 18)
+unfolding width_of width_to
+width_from_one zero m k e h a b =
+    let z : m ≡ 1 = omega arith in
+    let w : k + 1 ≡ width_of 1 = width_at 1 k (omega arith) (rw z at a) (rw z at b) in
+    (w, omega arith)
+width_from_one (suc n) m k e h a b =
+    let z : m ≡ suc n = omega arith in
+    let w : k + 1 ≡ width_of (suc n) = width_at (suc n) k h (rw z at a) (rw z at b) in
+    (w, omega (arith, width_le 17 (suc n) 18 (omega arith) h))
 
 -- ---- no leading zero
 pub lead : (w n : ℕ) → 10 ^ w ≤ n → n < 10 ^ suc w → 48 < get_or (fixed (suc w) n) 0 0

@@ -10,10 +10,9 @@ pub fn put(out: &mut [u8], at: usize, b: u8) -> usize
     requires { at < 2 ^ 32 }
     ensures { Wrote out.old at (b ∷ []) out.new result }
 {
-    if out.len() <= at {
-        return at + 1;
+    if at < out.len() {
+        out[at] = b;
     }
-    out[at] = b;
     at + 1
 }
 
@@ -22,20 +21,11 @@ pub fn put_bytes(out: &mut [u8], at: usize, s: &[u8]) -> usize
     requires { (at < 2 ^ 28) × (length s.now ≤ 2 ^ 28) }
     ensures { Wrote out.old at s.now out.new result }
 {
-    let mut i = 0;
-    let mut a = at;
-    while i < s.len() {
-        a = put(out, a, s[i]);
-        i += 1;
+    let mut next = at;
+    for b in s {
+        next = put(out, next, *b);
     }
-    a
-}
-
-fn ascii(d: u64) -> u8
-    requires { d < 10 }
-    ensures { result ≡ 48 + d }
-{
-    48 + (d as u8)
+    next
 }
 
 // The last w digits of n, leading zeros too.
@@ -43,12 +33,10 @@ pub fn put_fixed(out: &mut [u8], at: usize, w: usize, n: u64) -> usize
     requires { at + w < 2 ^ 32 }
     ensures { Wrote out.old at (fixed w n) out.new result × (result ≡ at + w) }
 {
-    let mut m = n;
-    let mut i = w;
-    while 0 < i {
-        i -= 1;
-        put(out, at + i, ascii(m % 10));
-        m = m / 10;
+    let mut rest = n;
+    for i in (0..w).rev() {
+        put(out, at + i, b'0' + (rest % 10) as u8);
+        rest /= 10;
     }
     at + w
 }
@@ -58,13 +46,7 @@ pub fn width(n: u64) -> usize
     requires { n < 10 ^ 18 }
     ensures { (result ≡ width_of n) × (result ≤ 18) }
 {
-    let mut w: usize = 1;
-    let mut p: u64 = 10;
-    while p <= n {
-        w += 1;
-        p *= 10;
-    }
-    w
+    n.max(1).ilog10() as usize + 1
 }
 
 // n in its shortest form.

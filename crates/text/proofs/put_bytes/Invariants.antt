@@ -1,11 +1,8 @@
+-- What is left to write would end the run that was begun. Assumes nothing.
 use Rattle.text.specs.Text.{Left}
-use lib.ListN.{length, drop}
-use Prim.Native.Nat.{◌+◌, ◌-◌, ◌≤◌}
-use mathlib.Core.Path.{◌≡◌}
+use Rattle.std.proofs.Common.{◌≡◌, ◌+◌, length, drop}
 use Rattle.text.proofs.put_bytes.Given as goal
 
-abbrev pub invariant-loop-i : goal.invariant-loop-i
-invariant-loop-i l = (l.i ≤ length l.s) × (l.a ≡ l.at + l.i) × (length l.out ≡ length l.initial.out) × Left l.out l.a (drop l.i l.s) l.initial.out l.at l.s
-
-abbrev pub decreases-loop-i : goal.decreases-loop-i
-decreases-loop-i l = length l.s - l.i
+abbrev pub invariant-loop-b : goal.invariant-loop-b
+invariant-loop-b l =
+    (l.next ≡ l.at + l.b-index) × (length l.out ≡ length l.initial.out) × Left l.out l.next (drop l.b-index l.s) l.initial.out l.at l.s
