@@ -1,14 +1,14 @@
 -- The days of a year before a month, by a table, and their sums. Assumes nothing.
 use mathlib.Core.Path.{◌≡◌, refl}
-use mathlib.Core.Bool.{Bool, true, false, cond, ◌&&◌, false≢true}
+use mathlib.Core.Bool.{Bool, true, false, ◌&&◌, false≢true}
 use mathlib.Core.List.{List, [], ◌∷◌}
 use Prim.Native.Nat.{ℕ, zero, suc, ◌+◌, ◌*◌, ◌≤◌, ◌<◌}
 use native.Mathlib.Omega.{arith}
-use borrow.Author.Tests.{eqb-true, leb-true, leb-false, ne_eqb, le-leb, lt-leb}
+use borrow.Author.Tests.{eqb-true, leb-true, leb-false, ne_eqb}
+use mir.Val.{bool_byte}
 use lib.Dec.{eqb, leb}
 use lib.ListN.{get_or, get_or-eq_default}
 use Rattle.calendar.specs.Calendar.{months, days_in, days_to, year_days}
-use Rattle.calendar.proofs.Search.{rising}
 
 -- ---- a test that passes at every number below n
 abbrev all : (ℕ → Bool) → ℕ → Bool
@@ -74,27 +74,14 @@ unfoldable pub table : List ℕ
 table = 0 ∷ 0 ∷ 31 ∷ 59 ∷ 90 ∷ 120 ∷ 151 ∷ 181 ∷ 212 ∷ 243 ∷ 273 ∷ 304 ∷ 334 ∷ []
 
 right : Bool → ℕ → Bool
-right l m = eqb (get_or table m 0 + cond (l && leb 3 m) 1 0) (days_to l m)
+right l m = eqb (get_or table m 0 + bool_byte (l && leb 3 m)) (days_to l m)
 
-by_table : (l : Bool) (m : ℕ) → m ≤ 12 → get_or table m 0 + cond (l && leb 3 m) 1 0 ≡ days_to l m
+pub by_table : (l : Bool) (m : ℕ) → m ≤ 12 → get_or table m 0 + bool_byte (l && leb 3 m) ≡ days_to l m
 unfolding days_to days_in months table right
 by_table true m h = eqb-true _ _ (all_at (right true) 13 refl m (omega arith))
 by_table false m h = eqb-true _ _ (all_at (right false) 13 refl m (omega arith))
-
-pub table_plain : (m : ℕ) → m ≤ 12 → get_or table m 0 ≡ days_to false m
-table_plain m h = omega (arith, by_table false m h)
-
-pub table_leap : (m : ℕ) → 2 < m → m ≤ 12 → get_or table m 0 + 1 ≡ days_to true m
-table_leap m k h = rw (le-leb 3 m k) at (by_table true m h)
-
-pub table_first : (l : Bool) (m : ℕ) → m ≤ 2 → get_or table m 0 ≡ days_to l m
-table_first true m h = let e = rw (lt-leb 3 m (omega arith)) at (by_table true m (omega arith)) in omega arith
-table_first false m h = table_plain m (omega arith)
 
 pub year_most : (l : Bool) → year_days l ≤ 366
 unfolding year_days
 year_most true = omega arith
 year_most false = omega arith
-
-pub to_small : (l : Bool) (m : ℕ) → m ≤ 12 → days_to l m ≤ 366
-to_small l m h = omega (arith, rising (days_to l) (months_rise l) m 13 (omega arith), year_end l, year_most l)

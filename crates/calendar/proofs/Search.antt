@@ -4,7 +4,10 @@ use mathlib.Core.Bool.{Bool, true, false, cond}
 use Prim.Native.Nat.{ℕ, zero, suc, ◌≤◌, ◌<◌}
 use native.Mathlib.Omega.{arith}
 use borrow.Author.Tests.{leb-true, leb-false, le-leb, lt-leb}
+use native.Mathlib.Numerals.{add-one}
 use lib.Dec.{leb}
+use Rattle.std.specs.Prelude.{Option, None, Some, MatchOption, ◌+◌}
+use Rattle.std.specs.Option.{unwrap_or}
 use Rattle.calendar.specs.Calendar.{last_to}
 
 pub last_most : (f : ℕ → ℕ) (n d : ℕ) → last_to f n d ≤ n
@@ -61,3 +64,19 @@ module _ (f : ℕ → ℕ) (rises : (j : ℕ) → f j ≤ f (suc j)) where
       go false e r =
           let z : k ≡ suc n = omega (arith, leb-false k n e) in
           rw (le-leb (f (suc n)) d (rw z at a)) (sym z)
+
+  -- f has come no further at i where none of its steps from s to i went past d
+  none_past : (s i d : ℕ) → s ≤ i → f s ≤ d → ((k : ℕ) → s ≤ k → k < i → f (k + 1) ≤ d) → f i ≤ d
+  none_past s zero d a b h = let z : s ≡ 0 = omega arith in rw z at b
+  none_past s (suc i) d a b h = go (leb s i) refl (h i)
+    where
+      go : (t : Bool) → leb s i ≡ t → (s ≤ i → i < suc i → f (i + 1) ≤ d) → f (suc i) ≤ d
+      go true e r = rw add-one at (r (leb-true s i e) (omega arith))
+      go false e r = let z : s ≡ suc i = omega (arith, leb-false s i e) in rw z at b
+
+  -- the first step from s on whose next is later than d, or n where none below n is
+  pub last_found : (n s d : ℕ) (r : Option ℕ) → s ≤ n → f s ≤ d
+      → MatchOption r ((k : ℕ) → s ≤ k → k < n → f (k + 1) ≤ d) (λ i. (s ≤ i) × (i < n) × (d < f (i + 1)) × ((k : ℕ) → s ≤ k → k < i → f (k + 1) ≤ d))
+      → unwrap_or r n ≡ last_to f n d
+  last_found n s d None a b h = sym (last_top f n d (none_past s n d a b h))
+  last_found n s d (Some i) a b h = sym (last_is n i d (omega (arith, h.1)) (none_past s i d h.0 b h.3) (rw add-one at h.2))

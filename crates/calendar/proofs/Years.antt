@@ -1,11 +1,11 @@
 -- The days before a year: they rise, and have a closed form. Assumes nothing.
 use mathlib.Core.Path.{◌≡◌, refl, sym}
 use mathlib.Core.Bool.{Bool, true, false, cond, not, ◌&&◌, ◌||◌, false≢true}
-use Prim.Native.Nat.{ℕ, zero, suc, ◌+◌, ◌-◌, ◌*◌, ◌/◌, ◌%◌, ◌≤◌, ◌<◌}
+use Prim.Native.Nat.{ℕ, zero, suc, ◌+◌, ◌-◌, ◌*◌, ◌/◌, ◌%◌, ◌≤◌}
 use native.Mathlib.Omega.{arith}
-use borrow.Author.Tests.{eqb-true, eqb-false, eq-eqb, leb-true, leb-false}
-use lib.Dec.{eqb, leb}
-use Rattle.calendar.specs.Calendar.{leap, year_days, days_before, days}
+use borrow.Author.Tests.{eqb-true, eqb-false, eq-eqb}
+use lib.Dec.{eqb}
+use Rattle.calendar.specs.Calendar.{leap, year_days, days_before}
 
 -- 365 days a year, and one for each leap year among them
 unfoldable pub closed : ℕ → ℕ
@@ -82,10 +82,3 @@ years_over y d h = rw (before_closed y) (omega arith)
 pub all_years : days_before 10000 ≡ 3652425
 unfolding closed
 all_years = rw (before_closed 10000)
-
-pub year_in_lem : (y d : ℕ) → y ≤ 10000 → days_before y ≤ d → d < days → y < 10000
-year_in_lem y d h a b = go (leb 10000 y) refl
-  where
-    go : (t : Bool) → leb 10000 y ≡ t → y < 10000
-    go true e = let z : y ≡ 10000 = omega (arith, leb-true 10000 y e) in let w : days_before 10000 ≤ d = rw z at a in absurd (omega (arith, all_years))
-    go false e = leb-false 10000 y e
