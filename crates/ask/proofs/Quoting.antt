@@ -1,4 +1,5 @@
 -- A quote of a sound board can be written, and its answers test by test.
+use Rattle.std.specs.Prelude.{Option, Some, None}
 use mathlib.Core.Path.{◌≡◌, refl, ◌∙◌}
 use mathlib.Core.Bool.{Bool, true, false, cond, ◌&&◌}
 use mathlib.Core.List.{List, [], ◌∷◌}
@@ -8,7 +9,6 @@ use lib.IntN.{pos}
 use lib.Signed.{lt_z}
 use lib.ListN.{length}
 use borrow.Author.Tests.{le-leb, lt-leb, leb-false, eqb-false}
-use Rattle.digits.specs.declared.Number.{Number}
 use Rattle.moment.specs.Moments.{moments, moment_of}
 use Rattle.moment.specs.Ages.{age_of}
 use Rattle.book.specs.Canonical.{All}
@@ -58,9 +58,9 @@ module _ (b : Board) (s : Sound b) where
       go false false false false true p q = tt
       go false false false false false p q = given_fine i (leb-false (length b.insts) i p) (eqb-false b.H 0 q)
 
-  now_fine : (n : Number) (id limit : ℕ) → FineQuoted (at_now n id limit b)
-  now_fine Number.No id limit = tt
-  now_fine (Number.Is time) id limit = go (id_fine id && leb limit most_limit)
+  now_fine : (n : Option ℕ) (id limit : ℕ) → FineQuoted (at_now n id limit b)
+  now_fine None id limit = tt
+  now_fine (Some time) id limit = go (id_fine id && leb limit most_limit)
     where
       go : (t : Bool) → FineQuoted (cond t (quote_at (look id b.insts) time limit b) Quoted.BadArgument)
       go true = at_fine (look id b.insts) time limit

@@ -1,4 +1,5 @@
 -- The side behind a quote, refused and given. Assumes nothing.
+use Rattle.std.specs.Prelude.{Option, Some, None}
 use mathlib.Core.Path.{◌≡◌, refl, sym, ap, ◌∙◌}
 use mathlib.Core.Bool.{Bool, true, false, cond, ◌&&◌}
 use mathlib.Core.List.{List, []}
@@ -7,7 +8,6 @@ use native.Mathlib.Omega.{arith}
 use lib.Dec.{leb}
 use lib.ListN.{length}
 use borrow.Author.Tests.{leb-false}
-use Rattle.digits.specs.declared.Number.{Number}
 use Rattle.moment.specs.Moments.{moment_of}
 use Rattle.book.specs.declared.Side.{Side}
 use Rattle.book.specs.Sides.{no_side}
@@ -49,9 +49,9 @@ followed id now limit b q e = by_moment (moment_of now) e
     by_test m true w = followed_at (look id b.insts) m limit b q w
     by_test m false w = absurd (never_bad w refl)
 
-    by_moment : (m : Number) → at_now m id limit b ≡ Quoted.Is q → look id b.insts < length b.insts
-    by_moment Number.No w = absurd (never_bad w refl)
-    by_moment (Number.Is m) w = by_test m (id_fine id && leb limit most_limit) w
+    by_moment : (m : Option ℕ) → at_now m id limit b ≡ Quoted.Is q → look id b.insts < length b.insts
+    by_moment None w = absurd (never_bad w refl)
+    by_moment (Some m) w = by_test m (id_fine id && leb limit most_limit) w
 
 -- ---- refused
 

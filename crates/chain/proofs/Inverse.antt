@@ -1,8 +1,8 @@
 -- Reading and writing a chain of fields are inverse to each other. Assumes nothing.
+use Rattle.std.specs.Prelude.{Option, Some, None}
 use mathlib.Core.Path.{◌≡◌, refl, sym, ap, ◌∙◌}
 use mathlib.Core.List.{List, [], ◌∷◌, ◌++◌, append_assoc, append-nil}
 use mathlib.Core.Bool.{Bool, true, false, cond, not, ◌&&◌, false≢true}
-use mathlib.Core.Option.{Option, none, some}
 use Prim.Native.Nat.{ℕ, ◌+◌, ◌-◌, ◌≤◌, ◌<◌}
 use native.Mathlib.Omega.{arith}
 use borrow.Author.Tests.{leb-true, le-leb, lt-ltb, eqb-true}
@@ -10,7 +10,6 @@ use lib.Dec.{leb, eqb}
 use lib.ListN.{length, drop, length-append, length-drop}
 use lib.Seq.{take-append_seam, drop-append_seam, drop-append-add, drop-drop, take_at}
 use Rattle.digits.specs.Digits.{ranged_of}
-use Rattle.digits.specs.declared.Number.TheVariants.{Is}
 use Rattle.digits.proofs.Width.{both}
 use Rattle.digits.proofs.Ranges.{ranged_back}
 use Rattle.text.specs.Text.{decimal, free}
@@ -51,13 +50,13 @@ module _ (f : Field) (h : Fair f) where
   piece = decimal f.tag ++ (61 ∷ f.text)
 
   -- a field up to its SOH is read back
-  pub field_back : field_of piece ≡ some f
+  pub field_back : field_of piece ≡ Some f
   unfolding field_of
   field_back =
       let t = f.tag in
       let d = decimal t in
       let a : ahead 61 piece ≡ length d = ahead_at 61 d f.text (digits_free 61 d refl (digits_decimal t)) in
-      let r : ranged_of 5 1 99999 d ≡ Is t = ranged_back 5 1 99999 d (whole_back 5 t (omega arith) (omega arith) (omega (arith, h.high))) h.low h.high in
+      let r : ranged_of 5 1 99999 d ≡ Some t = ranged_back 5 1 99999 d (whole_back 5 t (omega arith) (omega arith) (omega (arith, h.high))) h.low h.high in
       rw (a, take-append_seam d (61 ∷ f.text), drop-append-add d (61 ∷ f.text) 1, r) (a_value t f.text h.some)
 
   -- no SOH stands before its own
@@ -77,36 +76,36 @@ cut_run (b ∷ bs) p r h = go (eqb b 1) h (λ e. cut_run bs (p ++ (b ∷ [])) r 
     go false e i = simp append_assoc at (i e)
 
 -- a fair field comes first
-pub first_field : (f : Field) (r : List ℕ) → fair f ≡ true → fields_of (field_bytes f ++ r) ≡ then (some f) (fields_of r)
+pub first_field : (f : Field) (r : List ℕ) → fair f ≡ true → fields_of (field_bytes f ++ r) ≡ then (Some f) (fields_of r)
 unfolding fields_of
 first_field f r h =
     let x = fair_is f h in
     rw (with_soh f r) (cut_run (decimal f.tag ++ (61 ∷ f.text)) [] r (piece_free f x) ∙ ap (λ (o : Option Field). then o (cut [] r)) (field_back f x))
 
-pub fields_back : (fs : List Field) → all_fair fs ≡ true → fields_of (bytes_of fs) ≡ some fs
+pub fields_back : (fs : List Field) → all_fair fs ≡ true → fields_of (bytes_of fs) ≡ Some fs
 unfolding bytes_of fields_of cut
 fields_back [] h = refl
 fields_back (f ∷ fs) h =
     let d = both (fair f) (all_fair fs) h in
-    first_field f (bytes_of fs) d.0 ∙ ap (then (some f)) (fields_back fs d.1)
+    first_field f (bytes_of fs) d.0 ∙ ap (then (Some f)) (fields_back fs d.1)
 
 -- ---- a chain read is written again
 pub record Chain (s : List ℕ) (fs : List Field) : Type 0 where
   pub same : bytes_of fs ≡ s
   pub fair : all_fair fs ≡ true
 
-cut_only : (bs p : List ℕ) (fs : List Field) → free 1 p ≡ true → cut p bs ≡ some fs → Chain (p ++ bs) fs
+cut_only : (bs p : List ℕ) (fs : List Field) → free 1 p ≡ true → cut p bs ≡ Some fs → Chain (p ++ bs) fs
 unfolding cut bytes_of
 cut_only [] [] fs g e = let q : [] ≡ fs = cc in rw (← q) (record { same = refl; fair = refl })
 cut_only [] (x ∷ p) fs g e = let z : ◌≡◌ {A = ℕ} 0 1 = cc in absurd (omega arith)
 cut_only (b ∷ bs) p fs g e = go (eqb b 1) refl e (λ gs h. cut_only bs [] gs refl h) (λ h k. cut_only bs (p ++ (b ∷ [])) fs h k)
   where
     one : (o : Option Field) (r : Option (List Field)) → b ≡ 1 → field_of p ≡ o → cut [] bs ≡ r
-        → ((gs : List Field) → cut [] bs ≡ some gs → Chain bs gs)
-        → then o r ≡ some fs → Chain (p ++ (b ∷ bs)) fs
-    one none r q x y i h = let z : ◌≡◌ {A = ℕ} 0 1 = cc in absurd (omega arith)
-    one (some f) none q x y i h = let z : ◌≡◌ {A = ℕ} 0 1 = cc in absurd (omega arith)
-    one (some f) (some gs) q x y i h =
+        → ((gs : List Field) → cut [] bs ≡ Some gs → Chain bs gs)
+        → then o r ≡ Some fs → Chain (p ++ (b ∷ bs)) fs
+    one None r q x y i h = let z : ◌≡◌ {A = ℕ} 0 1 = cc in absurd (omega arith)
+    one (Some f) None q x y i h = let z : ◌≡◌ {A = ℕ} 0 1 = cc in absurd (omega arith)
+    one (Some f) (Some gs) q x y i h =
         let c = i gs y in
         let u : f ∷ gs ≡ fs = cc in
         rw (← u, q) (record {
@@ -114,14 +113,14 @@ cut_only (b ∷ bs) p fs g e = go (eqb b 1) refl e (λ gs h. cut_only bs [] gs r
           fair = rw (parted_fair p f x g, c.fair);
         })
 
-    go : (t : Bool) → eqb b 1 ≡ t → cond t (then (field_of p) (cut [] bs)) (cut (p ++ (b ∷ [])) bs) ≡ some fs
-        → ((gs : List Field) → cut [] bs ≡ some gs → Chain bs gs)
-        → (free 1 (p ++ (b ∷ [])) ≡ true → cut (p ++ (b ∷ [])) bs ≡ some fs → Chain ((p ++ (b ∷ [])) ++ bs) fs)
+    go : (t : Bool) → eqb b 1 ≡ t → cond t (then (field_of p) (cut [] bs)) (cut (p ++ (b ∷ [])) bs) ≡ Some fs
+        → ((gs : List Field) → cut [] bs ≡ Some gs → Chain bs gs)
+        → (free 1 (p ++ (b ∷ [])) ≡ true → cut (p ++ (b ∷ [])) bs ≡ Some fs → Chain ((p ++ (b ∷ [])) ++ bs) fs)
         → Chain (p ++ (b ∷ bs)) fs
     go true q h i j = one (field_of p) (cut [] bs) (eqb-true b 1 q) refl refl i h
     go false q h i j = rw append_assoc at (j (free_append 1 p (b ∷ []) g (rw q)) h)
 
-pub fields_only : (s : List ℕ) (fs : List Field) → fields_of s ≡ some fs → Chain s fs
+pub fields_only : (s : List ℕ) (fs : List Field) → fields_of s ≡ Some fs → Chain s fs
 unfolding fields_of
 fields_only s fs e = cut_only s [] fs refl e
 

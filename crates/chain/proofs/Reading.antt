@@ -1,8 +1,8 @@
 -- The field at a place, by the places of its '=' and its SOH. Assumes nothing.
+use Rattle.std.specs.Prelude.{Option, Some, None}
 use mathlib.Core.Path.{◌≡◌, refl, ap, ◌∙◌}
 use mathlib.Core.List.{List, [], ◌∷◌}
 use mathlib.Core.Bool.{Bool, true, false, cond}
-use mathlib.Core.Option.{none, some}
 use Prim.Native.Nat.{ℕ, ◌+◌, ◌-◌, ◌≤◌, ◌<◌}
 use native.Mathlib.Omega.{arith}
 use borrow.Author.Tests.{leb-true, leb-false, lt-ltb, le-ltb}
@@ -10,8 +10,6 @@ use lib.Dec.{leb, ltb}
 use lib.ListN.{length, take, drop, length-take, length-drop, drop_of_length-le}
 use lib.Seq.{take-take, drop-drop}
 use Rattle.digits.specs.Digits.{ranged_of}
-use Rattle.digits.specs.declared.Number.{Number}
-use Rattle.digits.specs.declared.Number.TheVariants.{Is, No}
 use Rattle.text.specs.Text.{free}
 use Rattle.chain.specs.Fields.{field, ahead, before, named, field_of}
 use Rattle.chain.specs.Places.{part, first_of, placed, field_at}
@@ -20,11 +18,11 @@ use Rattle.chain.proofs.Ahead.{ahead_le, ahead_take, ahead_past, at_ahead, digit
 use Rattle.chain.proofs.Shortest.{tag_digits}
 
 -- ---- a value
-no_value : (r : Number) → named r [] ≡ none
-no_value No = refl
-no_value (Is t) = refl
+no_value : (r : Option ℕ) → named r [] ≡ None
+no_value None = refl
+no_value (Some t) = refl
 
-pub a_value : (t : ℕ) (v : List ℕ) → 1 ≤ length v → named (Is t) v ≡ some (field t v)
+pub a_value : (t : ℕ) (v : List ℕ) → 1 ≤ length v → named (Some t) v ≡ Some (field t v)
 a_value t [] l = absurd (omega arith)
 a_value t (b ∷ v) l = refl
 
@@ -39,7 +37,7 @@ module _ (s : List ℕ) (at : ℕ) where
   k = ahead 1 rest
 
   -- SOH comes before '='
-  late : k ≤ m → field_of (before 1 rest) ≡ none
+  late : k ≤ m → field_of (before 1 rest) ≡ None
   unfolding field_of
   late h =
       let q : ahead 61 (take k rest) ≡ k = ahead_take 61 k rest ∙ omega arith in
@@ -53,7 +51,7 @@ module _ (s : List ℕ) (at : ℕ) where
       let q : ahead 61 (take k rest) ≡ m = ahead_take 61 k rest ∙ omega arith in
       rw (q, take-take m k rest (omega arith), drop_take (m + 1) k rest)
 
-  none_no : field_of (before 1 rest) ≡ none → field_at s at ≡ Step.No
+  none_no : field_of (before 1 rest) ≡ None → field_at s at ≡ Step.No
   unfolding field_at
   none_no e = rw e (go (ltb (first_of 1 s at) (length s)))
     where
@@ -66,22 +64,22 @@ module _ (s : List ℕ) (at : ℕ) where
   no_equals mid q h = none_no (late (omega (arith, ahead_le 1 rest, length-drop at s)))
 
   -- there is no tag before it
-  pub no_tag : (mid : ℕ) → mid ≡ first_of 61 s at → ranged_of 5 1 99999 (part at mid s) ≡ No → field_at s at ≡ Step.No
+  pub no_tag : (mid : ℕ) → mid ≡ first_of 61 s at → ranged_of 5 1 99999 (part at mid s) ≡ None → field_at s at ≡ Step.No
   no_tag mid q r =
       let w : mid - at ≡ m = omega arith in
-      let u : ranged_of 5 1 99999 (take m rest) ≡ No = rw w at r in
+      let u : ranged_of 5 1 99999 (take m rest) ≡ None = rw w at r in
       none_no (go (leb k m) refl u)
     where
-      go : (t : Bool) → leb k m ≡ t → ranged_of 5 1 99999 (take m rest) ≡ No → field_of (before 1 rest) ≡ none
+      go : (t : Bool) → leb k m ≡ t → ranged_of 5 1 99999 (take m rest) ≡ None → field_of (before 1 rest) ≡ None
       go true e u = late (leb-true k m e)
       go false e u = early (leb-false k m e) ∙ rw u
 
   module _ (mid t to : ℕ) (equals : mid ≡ first_of 61 s at) (in_s : mid < length s)
-      (tag : ranged_of 5 1 99999 (part at mid s) ≡ Is t) (soh : to ≡ first_of 1 s (mid + 1)) where
+      (tag : ranged_of 5 1 99999 (part at mid s) ≡ Some t) (soh : to ≡ first_of 1 s (mid + 1)) where
     width : mid - at ≡ m
     width = omega arith
 
-    tag_read : ranged_of 5 1 99999 (take m rest) ≡ Is t
+    tag_read : ranged_of 5 1 99999 (take m rest) ≡ Some t
     tag_read = rw width at tag
 
     -- no SOH stands before the value
@@ -99,7 +97,7 @@ module _ (s : List ℕ) (at : ℕ) where
     ends_at : first_of 1 s at ≡ to
     ends_at = let e : ahead 1 (drop (m + 1) rest) ≡ ahead 1 (drop (mid + 1) s) = ap (ahead 1) value_at in omega (arith, past)
 
-    by_parts : field_at s at ≡ cond (ltb to (length s)) (placed to (named (Is t) (part (mid + 1) to s))) Step.No
+    by_parts : field_at s at ≡ cond (ltb to (length s)) (placed to (named (Some t) (part (mid + 1) to s))) Step.No
     unfolding field_at
     by_parts =
         let l : m < k = omega (arith, past) in

@@ -1,4 +1,5 @@
 -- Digits that read as a whole number are that number's shortest form. Assumes nothing.
+use Rattle.std.specs.Prelude.{Option, Some, None}
 use mathlib.Core.Path.{◌≡◌, refl, ap, ◌∙◌}
 use mathlib.Core.List.{List, [], ◌∷◌, ◌++◌, append-nil, append_assoc}
 use mathlib.Core.Bool.{Bool, true, false, cond, ◌&&◌}
@@ -9,8 +10,6 @@ use borrow.Author.Tests.{leb-true, le-leb, eq-eqb}
 use lib.Dec.{leb}
 use lib.ListN.{length}
 use Rattle.digits.specs.Digits.{is_digit, all_digits, value, digits_of, whole_of, ranged_of, within}
-use Rattle.digits.specs.declared.Number.{Number}
-use Rattle.digits.specs.declared.Number.TheVariants.{Is, No}
 use Rattle.digits.proofs.Width.{both, below, whole_is_digits}
 use Rattle.text.specs.Text.{fixed, width_to, width_of, decimal}
 use Rattle.text.proofs.Written.{width_pos, width_le, width_more}
@@ -23,31 +22,31 @@ pub record Digits (w : ℕ) (bs : List ℕ) (n : ℕ) : Type 0 where
   pub all : all_digits bs ≡ true
   pub is : value 0 bs ≡ n
 
-pub read_digits : (w : ℕ) (bs : List ℕ) {n : ℕ} → digits_of w bs ≡ Is n → Digits w bs n
+pub read_digits : (w : ℕ) (bs : List ℕ) {n : ℕ} → digits_of w bs ≡ Some n → Digits w bs n
 unfolding digits_of
 read_digits w bs {n} = go (leb 1 (length bs)) (leb (length bs) w) (leb w 18) (all_digits bs) refl refl refl refl
   where
     go : (a b c d : Bool) → leb 1 (length bs) ≡ a → leb (length bs) w ≡ b → leb w 18 ≡ c → all_digits bs ≡ d
-        → cond (a && (b && (c && d))) (Is (value 0 bs)) No ≡ Is n → Digits w bs n
+        → cond (a && (b && (c && d))) (Some (value 0 bs)) None ≡ Some n → Digits w bs n
     go true true true true p q r t e = record { some = leb-true 1 (length bs) p; most = leb-true (length bs) w q; wide = leb-true w 18 r; all = t; is = cc }
     go true true true false p q r t e = let z : ◌≡◌ {A = ℕ} 0 1 = cc in absurd (omega arith)
     go true true false d p q r t e = let z : ◌≡◌ {A = ℕ} 0 1 = cc in absurd (omega arith)
     go true false c d p q r t e = let z : ◌≡◌ {A = ℕ} 0 1 = cc in absurd (omega arith)
     go false b c d p q r t e = let z : ◌≡◌ {A = ℕ} 0 1 = cc in absurd (omega arith)
 
-pub ranged_whole : (w lo hi : ℕ) (bs : List ℕ) {n : ℕ} → ranged_of w lo hi bs ≡ Is n → whole_of w bs ≡ Is n
+pub ranged_whole : (w lo hi : ℕ) (bs : List ℕ) {n : ℕ} → ranged_of w lo hi bs ≡ Some n → whole_of w bs ≡ Some n
 unfolding ranged_of
 ranged_whole w lo hi bs {n} = go (whole_of w bs)
   where
-    go : (x : Number) → within lo hi x ≡ Is n → x ≡ Is n
-    go No e = e
-    go (Is v) e = pick (leb lo v && leb v hi) e
+    go : (x : Option ℕ) → within lo hi x ≡ Some n → x ≡ Some n
+    go None e = e
+    go (Some v) e = pick (leb lo v && leb v hi) e
       where
-        pick : (t : Bool) → cond t (Is v) No ≡ Is n → Is v ≡ Is n
+        pick : (t : Bool) → cond t (Some v) None ≡ Some n → Some v ≡ Some n
         pick true f = f
         pick false f = let z : ◌≡◌ {A = ℕ} 0 1 = cc in absurd (omega arith)
 
-pub tag_digits : (bs : List ℕ) {t : ℕ} → ranged_of 5 1 99999 bs ≡ Is t → all_digits bs ≡ true
+pub tag_digits : (bs : List ℕ) {t : ℕ} → ranged_of 5 1 99999 bs ≡ Some t → all_digits bs ≡ true
 tag_digits bs e = (read_digits 5 bs (whole_is_digits 5 bs (ranged_whole 5 1 99999 bs e))).all
 
 -- ---- written again
@@ -80,27 +79,27 @@ value_ge k v (b ∷ bs) h =
 lead_ge : (b : ℕ) (bs : List ℕ) → 49 ≤ b → 10 ^ length bs ≤ value 0 (b ∷ bs)
 lead_ge b bs h = rw zero-add at (value_ge 0 (0 * 10 + (b - 48)) bs (omega arith))
 
-pub own_width : (w : ℕ) (bs : List ℕ) {n : ℕ} → Digits w bs n → digits_of (length bs) bs ≡ Is n
+pub own_width : (w : ℕ) (bs : List ℕ) {n : ℕ} → Digits w bs n → digits_of (length bs) bs ≡ Some n
 unfolding digits_of
 own_width w bs {n} d =
     let l = length bs in
     rw (le-leb 1 l d.some, le-leb l l (omega arith), le-leb l 18 (omega (arith, d.most, d.wide)), d.all, d.is)
 
-no_lead_zero : (w b : ℕ) (bs : List ℕ) {n : ℕ} → 1 ≤ length bs → whole_of w (b ∷ bs) ≡ Is n → b ≡ 48 → ⊥
+no_lead_zero : (w b : ℕ) (bs : List ℕ) {n : ℕ} → 1 ≤ length bs → whole_of w (b ∷ bs) ≡ Some n → b ≡ 48 → ⊥
 unfolding whole_of
 no_lead_zero w b bs {n} l e h =
-    let f : No ≡ Is n = rw (le-leb 2 (suc (length bs)) (omega arith), eq-eqb b 48 h) at e in
+    let f : None ≡ Some n = rw (le-leb 2 (suc (length bs)) (omega arith), eq-eqb b 48 h) at e in
     let z : ◌≡◌ {A = ℕ} 0 1 = cc in
     omega arith
 
-width_of_lem : (w : ℕ) (bs : List ℕ) {n : ℕ} → Digits w bs n → whole_of w bs ≡ Is n → width_of n ≡ length bs
+width_of_lem : (w : ℕ) (bs : List ℕ) {n : ℕ} → Digits w bs n → whole_of w bs ≡ Some n → width_of n ≡ length bs
 unfolding width_of
 width_of_lem w bs {n} d e = omega (arith, width_le 17 n (length bs) d.some small, go bs d e)
   where
     small : n < 10 ^ length bs
     small = below (length bs) bs (own_width w bs d)
 
-    go : (cs : List ℕ) → Digits w cs n → whole_of w cs ≡ Is n → length cs ≤ width_to 17 n
+    go : (cs : List ℕ) → Digits w cs n → whole_of w cs ≡ Some n → length cs ≤ width_to 17 n
     go [] c f = omega arith
     go (b ∷ []) c f = width_pos 17 n
     go (b ∷ x ∷ cs) c f =
@@ -112,7 +111,7 @@ width_of_lem w bs {n} d e = omega (arith, width_le 17 n (length bs) d.some small
         width_more 17 n (suc (length cs)) (omega (arith, small)) g
 
 -- the shortest form
-pub decimal_back : (w : ℕ) (bs : List ℕ) {n : ℕ} → whole_of w bs ≡ Is n → decimal n ≡ bs
+pub decimal_back : (w : ℕ) (bs : List ℕ) {n : ℕ} → whole_of w bs ≡ Some n → decimal n ≡ bs
 unfolding decimal
 decimal_back w bs {n} e =
     let d = read_digits w bs (whole_is_digits w bs e) in

@@ -1,8 +1,8 @@
 -- Fields one at a time: a chain of them, and those up to bytes that are none. Assumes nothing.
+use Rattle.std.specs.Prelude.{Option, Some, None}
 use mathlib.Core.Path.{◌≡◌, refl, sym, ap, ◌∙◌}
 use mathlib.Core.List.{List, [], ◌∷◌, ◌++◌, append_assoc, append-nil}
 use mathlib.Core.Bool.{Bool, true, false, cond, ◌&&◌}
-use mathlib.Core.Option.{Option, none, some}
 use Prim.Native.Nat.{ℕ, suc, ◌+◌, ◌-◌, ◌≤◌, ◌<◌}
 use native.Mathlib.Omega.{arith}
 use native.Mathlib.Nat.{add_assoc}
@@ -12,8 +12,6 @@ use lib.Dec.{leb, ltb, eqb}
 use lib.ListN.{length, get_or, take, drop, length-drop, take-append-drop, drop_of_length-le}
 use lib.Seq.{drop-cons, drop-drop, length-take-le}
 use Rattle.digits.specs.Digits.{ranged_of}
-use Rattle.digits.specs.declared.Number.{Number}
-use Rattle.digits.specs.declared.Number.TheVariants.{Is, No}
 use Rattle.digits.proofs.Ranges.{ranged_in}
 use Rattle.text.specs.Text.{decimal, free}
 use Rattle.chain.specs.Fields.{Field, field, ahead, before, behind, named, field_of, then, closed, cut, fields_of}
@@ -30,7 +28,7 @@ pub record Reads (A : Type 0) : Type 0 where
   pub more : Option Field → A → A
   pub read : List ℕ → List ℕ → A
   pub rest : (b : ℕ) (bs : List ℕ) → over (b ∷ bs) ≡ bad
-  pub none : (r : A) → more none r ≡ bad
+  pub none : (r : A) → more None r ≡ bad
   pub nil : (p : List ℕ) → read p [] ≡ over p
   pub cons : (p : List ℕ) (b : ℕ) (bs : List ℕ) → read p (b ∷ bs) ≡ cond (eqb b 1) (more (field_of p) (read [] bs)) (read (p ++ (b ∷ [])) bs)
 
@@ -61,26 +59,26 @@ module _ {A : Type 0} (x : Reads A) where
   -- what a step says of what is left
   abbrev pub after : List ℕ → Step → A
   after s Step.No = x.bad
-  after s (Step.Is t from to) = x.more (some (field t (part from to s))) (x.read [] (drop (to + 1) s))
+  after s (Step.Is t from to) = x.more (Some (field t (part from to s))) (x.read [] (drop (to + 1) s))
 
 -- ---- what a field's bytes are
 pub record Parted (p : List ℕ) (f : Field) : Type 0 where
-  pub tag : ranged_of 5 1 99999 (before 61 p) ≡ Is f.tag
+  pub tag : ranged_of 5 1 99999 (before 61 p) ≡ Some f.tag
   pub text : behind 61 p ≡ f.text
   pub some : 1 ≤ length f.text
 
-pub parted : (p : List ℕ) (f : Field) → field_of p ≡ some f → Parted p f
+pub parted : (p : List ℕ) (f : Field) → field_of p ≡ Some f → Parted p f
 unfolding field_of
 parted p f e = go (ranged_of 5 1 99999 (before 61 p)) (behind 61 p) refl refl e
   where
-    go : (r : Number) (v : List ℕ) → ranged_of 5 1 99999 (before 61 p) ≡ r → behind 61 p ≡ v → named r v ≡ some f → Parted p f
-    go No v a b h = let z : ◌≡◌ {A = ℕ} 0 1 = cc in absurd (omega arith)
-    go (Is t) [] a b h = let z : ◌≡◌ {A = ℕ} 0 1 = cc in absurd (omega arith)
-    go (Is t) (x ∷ v) a b h =
+    go : (r : Option ℕ) (v : List ℕ) → ranged_of 5 1 99999 (before 61 p) ≡ r → behind 61 p ≡ v → named r v ≡ Some f → Parted p f
+    go None v a b h = let z : ◌≡◌ {A = ℕ} 0 1 = cc in absurd (omega arith)
+    go (Some t) [] a b h = let z : ◌≡◌ {A = ℕ} 0 1 = cc in absurd (omega arith)
+    go (Some t) (x ∷ v) a b h =
         let q : field t (x ∷ v) ≡ f = cc in
         rw (← q) (record { tag = a; text = b; some = omega arith })
 
-module _ (p : List ℕ) (f : Field) (h : field_of p ≡ some f) where
+module _ (p : List ℕ) (f : Field) (h : field_of p ≡ Some f) where
   pub equals_in : ahead 61 p < length p
   equals_in = let x = parted p f h in omega (arith, ap length x.text, length-drop (ahead 61 p + 1) p, x.some)
 
@@ -121,7 +119,7 @@ module _ (s : List ℕ) (at : ℕ) where
   behind_is : behind 1 rest ≡ drop (first_of 1 s at + 1) s
   behind_is = rw (drop-drop, ← add_assoc at k 1)
 
-  module _ (f : Field) (high : first_of 1 s at < length s) (h : field_of (before 1 rest) ≡ some f) where
+  module _ (f : Field) (high : first_of 1 s at < length s) (h : field_of (before 1 rest) ≡ Some f) where
     abbrev m : ℕ
     m = ahead 61 (before 1 rest)
 
@@ -168,8 +166,8 @@ module _ (s : List ℕ) (at : ℕ) where
     where
       pick : (o : Option Field) → field_of (before 1 rest) ≡ o → first_of 1 s at < length s
           → x.more o (x.read [] (drop (first_of 1 s at + 1) s)) ≡ after x s (placed (first_of 1 s at) o)
-      pick none e l = x.none (x.read [] (drop (first_of 1 s at + 1) s))
-      pick (some f) e l = rw (text_is f l e)
+      pick None e l = x.none (x.read [] (drop (first_of 1 s at + 1) s))
+      pick (Some f) e l = rw (text_is f l e)
 
       go : (z : Bool) → ltb (first_of 1 s at) (length s) ≡ z
           → x.read [] rest ≡ after x s (cond z (placed (first_of 1 s at) (field_of (before 1 rest))) Step.No)
@@ -188,8 +186,8 @@ module _ (s : List ℕ) (at : ℕ) where
     where
       go : (z : Bool) (o : Option Field) → ltb (first_of 1 s at) (length s) ≡ z → field_of (before 1 rest) ≡ o
           → cond z (placed (first_of 1 s at) o) Step.No ≡ Step.Is t from to → Found s at t from to
-      go true none p q h = let z : ◌≡◌ {A = ℕ} 0 1 = cc in absurd (omega arith)
-      go true (some f) p q h =
+      go true None p q h = let z : ◌≡◌ {A = ℕ} 0 1 = cc in absurd (omega arith)
+      go true (Some f) p q h =
           let a : f.tag ≡ t = cc in
           let b : first_of 1 s at - length f.text ≡ from = cc in
           let d : first_of 1 s at ≡ to = cc in
@@ -199,11 +197,11 @@ module _ (s : List ℕ) (at : ℕ) where
 -- ---- the walk along a chain
 chain : Reads (Option (List Field))
 unfolding cut
-chain = record { bad = none; over = closed; more = then; read = cut; rest = λ b bs. refl; none = λ r. refl; nil = λ p. refl; cons = λ p b bs. refl }
+chain = record { bad = None; over = closed; more = then; read = cut; rest = λ b bs. refl; none = λ r. refl; nil = λ p. refl; cons = λ p b bs. refl }
 
-is_some_then : (f : Field) (r : Option (List Field)) → is_some (then (some f) r) ≡ is_some r
-is_some_then f none = refl
-is_some_then f (some fs) = refl
+is_some_then : (f : Field) (r : Option (List Field)) → is_some (then (Some f) r) ≡ is_some r
+is_some_then f None = refl
+is_some_then f (Some fs) = refl
 
 module _ (s : List ℕ) (at : ℕ) where
   pub ends : at < length s → field_at s at ≡ Step.No → is_some (fields_of (drop at s)) ≡ false
@@ -215,7 +213,7 @@ module _ (s : List ℕ) (at : ℕ) where
   unfolding fields_of chain
   goes_on_lem {t} {from} {to} l e = rw (step s at chain l, e) (is_some_then (field t (part from to s)) (fields_of (drop (to + 1) s)))
 
-  pub all_read : length s ≤ at → fields_of (drop at s) ≡ some []
+  pub all_read : length s ≤ at → fields_of (drop at s) ≡ Some []
   unfolding fields_of cut
   all_read h = rw (drop_of_length-le s h)
 
@@ -239,8 +237,8 @@ module _ (s : List ℕ) (at : ℕ) where
 
 -- the fields that are left are the chain, or end with what is none
 abbrev Comes : Option (List Field) → List Field → Type 0
-Comes none gs = (fs : List Field) × (gs ≡ fs ++ (broken ∷ []))
-Comes (some fs) gs = gs ≡ fs
+Comes None gs = (fs : List Field) × (gs ≡ fs ++ (broken ∷ []))
+Comes (Some fs) gs = gs ≡ fs
 
 run_comes : (bs p : List ℕ) → Comes (cut p bs) (run p bs)
 unfolding cut run
@@ -249,9 +247,9 @@ run_comes [] (b ∷ p) = ([], refl)
 run_comes (b ∷ bs) p = go (eqb b 1) (run_comes bs []) (run_comes bs (p ++ (b ∷ [])))
   where
     one : (o : Option Field) (r : Option (List Field)) → Comes r (run [] bs) → Comes (then o r) (onto o (run [] bs))
-    one none r h = ([], refl)
-    one (some f) none h = (f ∷ h.0, ap (λ (gs : List Field). f ∷ gs) h.1)
-    one (some f) (some fs) h = ap (λ (gs : List Field). f ∷ gs) h
+    one None r h = ([], refl)
+    one (Some f) None h = (f ∷ h.0, ap (λ (gs : List Field). f ∷ gs) h.1)
+    one (Some f) (Some fs) h = ap (λ (gs : List Field). f ∷ gs) h
 
     go : (t : Bool) → Comes (cut [] bs) (run [] bs) → Comes (cut (p ++ (b ∷ [])) bs) (run (p ++ (b ∷ [])) bs)
         → Comes (cond t (then (field_of p) (cut [] bs)) (cut (p ++ (b ∷ [])) bs)) (cond t (onto (field_of p) (run [] bs)) (run (p ++ (b ∷ [])) bs))
@@ -259,11 +257,11 @@ run_comes (b ∷ bs) p = go (eqb b 1) (run_comes bs []) (run_comes bs (p ++ (b �
     go false i j = j
 
 module _ (s : List ℕ) (at : ℕ) where
-  pub left_whole : {fs : List Field} → fields_of (drop at s) ≡ some fs → left s at ≡ fs
+  pub left_whole : {fs : List Field} → fields_of (drop at s) ≡ Some fs → left s at ≡ fs
   unfolding fields_of
   left_whole e = rw e at (run_comes (drop at s) [])
 
-  pub left_broken : fields_of (drop at s) ≡ none → (fs : List Field) × (left s at ≡ fs ++ (broken ∷ []))
+  pub left_broken : fields_of (drop at s) ≡ None → (fs : List Field) × (left s at ≡ fs ++ (broken ∷ []))
   unfolding fields_of
   left_broken e = rw e at (run_comes (drop at s) [])
 
@@ -279,8 +277,8 @@ run_tagged [] (b ∷ p) = refl
 run_tagged (b ∷ bs) p = go (eqb b 1) (run_tagged bs []) (run_tagged bs (p ++ (b ∷ [])))
   where
     one : (o : Option Field) → field_of p ≡ o → all_tagged (run [] bs) ≡ true → all_tagged (onto o (run [] bs)) ≡ true
-    one none q i = refl
-    one (some f) q i = rw (le-leb 1 f.tag (ranged_in 5 1 99999 (before 61 p) (parted p f q).tag).low, i)
+    one None q i = refl
+    one (Some f) q i = rw (le-leb 1 f.tag (ranged_in 5 1 99999 (before 61 p) (parted p f q).tag).low, i)
 
     go : (t : Bool) → all_tagged (run [] bs) ≡ true → all_tagged (run (p ++ (b ∷ [])) bs) ≡ true
         → all_tagged (cond t (onto (field_of p) (run [] bs)) (run (p ++ (b ∷ [])) bs)) ≡ true

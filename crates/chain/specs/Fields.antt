@@ -1,9 +1,7 @@
 -- A message is a chain of fields (document 01, "Frame"). Assumes nothing.
+use Rattle.std.specs.Prelude.{Option, Some, None}
 use Rattle.std.specs.Prelude.{ℕ, ◌+◌, List, [], ◌∷◌, ◌++◌, cond, eqb, take, drop}
-use Rattle.std.proofs.Math.Option.{Option, none, some}
 use Rattle.digits.specs.Digits.{ranged_of}
-use Rattle.digits.specs.declared.Number.{Number}
-use Rattle.digits.specs.declared.Number.TheVariants.{Is, No}
 
 pub record Field : Type 0 where
   pub tag : ℕ
@@ -26,10 +24,10 @@ abbrev pub behind : ℕ → List ℕ → List ℕ
 behind x bs = drop (ahead x bs + 1) bs
 
 -- a tag that was read, and a value of at least one byte
-abbrev pub named : Number → List ℕ → Option Field
-named No v = none
-named (Is t) [] = none
-named (Is t) (b ∷ v) = some (field t (b ∷ v))
+abbrev pub named : Option ℕ → List ℕ → Option Field
+named None v = None
+named (Some t) [] = None
+named (Some t) (b ∷ v) = Some (field t (b ∷ v))
 
 -- a field is a tag of 1 to 99,999 without leading zero, '=' (61), and a value; p is all of it up to its SOH
 unfoldable pub field_of : List ℕ → Option Field
@@ -37,14 +35,14 @@ field_of p = named (ranged_of 5 1 99999 (before 61 p)) (behind 61 p)
 
 -- one field more
 abbrev pub then : Option Field → Option (List Field) → Option (List Field)
-then none r = none
-then (some f) none = none
-then (some f) (some fs) = some (f ∷ fs)
+then None r = None
+then (Some f) None = None
+then (Some f) (Some fs) = Some (f ∷ fs)
 
 -- nothing is left over
 abbrev pub closed : List ℕ → Option (List Field)
-closed [] = some []
-closed (b ∷ bs) = none
+closed [] = Some []
+closed (b ∷ bs) = None
 
 -- the fields of the bytes, of which p has come since the last SOH (1): SOH ends each field
 unfoldable pub cut : List ℕ → List ℕ → Option (List Field)

@@ -1,8 +1,7 @@
 -- Fields by their places in the bytes. Assumes nothing.
+use Rattle.std.specs.Prelude.{Option, Some, None}
 use Rattle.std.specs.Prelude.{ℕ, ◌+◌, ◌-◌, ◌<◌, ◌≡◌, List, [], ◌∷◌, ◌++◌, Bool, true, false, cond, ltb, eqb, length, take, drop}
-use Rattle.std.proofs.Math.Option.{Option, none, some}
 use Rattle.digits.specs.Digits.{ranged_of}
-use Rattle.digits.specs.declared.Number.{Number}
 use Rattle.chain.specs.Fields.{Field, field, ahead, before, field_of}
 use Rattle.chain.specs.declared.Step.{Step}
 use Rattle.chain.specs.declared.Tag.{Tag}
@@ -17,8 +16,8 @@ first_of x s at = at + ahead x (drop at s)
 
 -- a field whose SOH stands at to: its value ends there
 abbrev pub placed : ℕ → Option Field → Step
-placed to none = Step.No
-placed to (some f) = Step.Is f.tag (to - length f.text) to
+placed to None = Step.No
+placed to (Some f) = Step.Is f.tag (to - length f.text) to
 
 -- the field that starts at a place, up to the next SOH
 unfoldable pub field_at : List ℕ → ℕ → Step
@@ -27,12 +26,12 @@ field_at s at = cond (ltb (first_of 1 s at) (length s)) (placed (first_of 1 s at
 -- the tag of the field that starts at a place and where its '=' stands, or that no field starts there
 abbrev pub Tells : List ℕ → ℕ → Tag → Type 0
 Tells s at Tag.No = field_at s at ≡ Step.No
-Tells s at (Tag.Is t mid) = (mid ≡ first_of 61 s at) × ((mid < length s) × (ranged_of 5 1 99999 (part at mid s) ≡ Number.Is t))
+Tells s at (Tag.Is t mid) = (mid ≡ first_of 61 s at) × ((mid < length s) × (ranged_of 5 1 99999 (part at mid s) ≡ Some t))
 
 -- whether the bytes are a chain
 abbrev pub is_some : Option (List Field) → Bool
-is_some none = false
-is_some (some fs) = true
+is_some None = false
+is_some (Some fs) = true
 
 -- ---- the fields from a place on
 -- what stands for bytes that are no field: a tag that may stand in no place of a message, without a value
@@ -41,8 +40,8 @@ broken = field 8 []
 
 -- one field more, unless the bytes up to SOH are none
 abbrev pub onto : Option Field → List Field → List Field
-onto none fs = broken ∷ []
-onto (some f) fs = f ∷ fs
+onto None fs = broken ∷ []
+onto (Some f) fs = f ∷ fs
 
 -- nothing is left over
 abbrev pub over : List ℕ → List Field

@@ -1,16 +1,16 @@
 -- What a word writes, and which bytes stand in it. Assumes nothing.
+use Rattle.std.specs.Prelude.{Some, None}
 use Rattle.std.proofs.Common.{◌≡◌, ℕ, zero, suc, ◌+◌, ◌-◌, ◌*◌, ◌/◌, ◌%◌, ◌^◌, ◌<◌, ◌≤◌, Bool, true, false, cond, ◌&&◌, leb, List, [], ◌∷◌, ◌++◌, map, length, get_or, take, drop, replicate, sym, refl, ap, ◌∙◌, add-zero, arith, length-drop, get_or-drop, le-leb, leb-false, leb-true}
 use mathlib.Core.Bool.{and-false}
 use borrow.Author.Tests.{lt-leb}
 use lib.Bits.{bit_xor}
 use Rattle.digits.specs.Digits.{digits_of, is_digit, all_digits, value}
-use Rattle.digits.specs.declared.Number.TheVariants.{Is, No}
 use Rattle.digits.proofs.Steps.{rest, fit, one, other}
 use Rattle.digits.proofs.Words.{Digits, join, above, none_above, all_digits_lem, number, number_is, is_digit_lem, is_worth}
 
 -- ---- bytes that are no digits
-pub stop : (v : ℕ) (bs : List ℕ) → all_digits bs ≡ false → rest v bs ≡ No
-stop v bs e = ap (λ (t : Bool). cond t (Is (value v bs)) No) e
+pub stop : (v : ℕ) (bs : List ℕ) → all_digits bs ≡ false → rest v bs ≡ None
+stop v bs e = ap (λ (t : Bool). cond t (Some (value v bs)) None) e
 
 here : (x : ℕ) (bs : List ℕ) → 9 < x → all_digits ((x + 48) ∷ bs) ≡ false
 here x bs h = simp (le-leb 48 (x + 48) (omega arith), lt-leb (x + 48) 57 (omega arith))
@@ -23,12 +23,12 @@ module _ (a b c d : ℕ) where
   abbrev four : List ℕ
   four = (a + 48) ∷ (b + 48) ∷ (c + 48) ∷ (d + 48) ∷ []
 
-  four_is : Digits a b c d → rest 0 four ≡ Is (((a * 10 + b) * 10 + c) * 10 + d)
+  four_is : Digits a b c d → rest 0 four ≡ Some (((a * 10 + b) * 10 + c) * 10 + d)
   four_is z =
-      let e : rest 0 four ≡ Is (value 0 four) = simp (le-leb 48 (a + 48) (omega arith), le-leb (a + 48) 57 (omega (arith, z.first)), le-leb 48 (b + 48) (omega arith), le-leb (b + 48) 57 (omega (arith, z.second)), le-leb 48 (c + 48) (omega arith), le-leb (c + 48) 57 (omega (arith, z.third)), le-leb 48 (d + 48) (omega arith), le-leb (d + 48) 57 (omega (arith, z.last))) in
-      e ∙ ap Is (omega arith)
+      let e : rest 0 four ≡ Some (value 0 four) = simp (le-leb 48 (a + 48) (omega arith), le-leb (a + 48) 57 (omega (arith, z.first)), le-leb 48 (b + 48) (omega arith), le-leb (b + 48) 57 (omega (arith, z.second)), le-leb 48 (c + 48) (omega arith), le-leb (c + 48) 57 (omega (arith, z.third)), le-leb 48 (d + 48) (omega arith), le-leb (d + 48) 57 (omega (arith, z.last))) in
+      e ∙ ap Some (omega arith)
 
-  four_no : (Digits a b c d → ⊥) → rest 0 four ≡ No
+  four_no : (Digits a b c d → ⊥) → rest 0 four ≡ None
   four_no n = stop 0 four (go (leb a 9) (leb b 9) (leb c 9) (leb d 9) refl refl refl refl)
     where
       go : (p q r s : Bool) → leb a 9 ≡ p → leb b 9 ≡ q → leb c 9 ≡ r → leb d 9 ≡ s → all_digits four ≡ false
@@ -45,12 +45,12 @@ module _ (w : ℕ) (h : w < 2 ^ 32) where
   joined : w ≡ join (w % 256) (w / 256 % 256) (w / 65536 % 256) (w / 16777216)
   joined = omega arith
 
-  pub writes : above w ≡ 0 → digits_of 4 (bytes w) ≡ Is (number w)
+  pub writes : above w ≡ 0 → digits_of 4 (bytes w) ≡ Some (number w)
   writes e =
       let z = all_digits_lem (w % 256) (w / 256 % 256) (w / 65536 % 256) (w / 16777216) (omega arith) (omega arith) (omega arith) (omega arith) (ap above (sym joined) ∙ e) in
-      fit (bytes w) 4 (omega arith) (omega arith) (omega arith) ∙ four_is (w % 256) (w / 256 % 256) (w / 65536 % 256) (w / 16777216) z ∙ ap Is (sym (ap number joined ∙ number_is _ _ _ _ z))
+      fit (bytes w) 4 (omega arith) (omega arith) (omega arith) ∙ four_is (w % 256) (w / 256 % 256) (w / 65536 % 256) (w / 16777216) z ∙ ap Some (sym (ap number joined ∙ number_is _ _ _ _ z))
 
-  pub writes_none : (above w ≡ 0 → ⊥) → digits_of 4 (bytes w) ≡ No
+  pub writes_none : (above w ≡ 0 → ⊥) → digits_of 4 (bytes w) ≡ None
   writes_none n = fit (bytes w) 4 (omega arith) (omega arith) (omega arith) ∙ four_no (w % 256) (w / 256 % 256) (w / 65536 % 256) (w / 16777216) (λ z. n (ap above joined ∙ none_above _ _ _ _ z))
 
 -- ---- bytes that are known by what they are worth

@@ -1,9 +1,9 @@
 -- The width of digits read is one fact: what w digits write is below ten to the w. Assumes nothing.
+use Rattle.std.specs.Prelude.{Some, None}
 use Rattle.std.proofs.Common.{◌≡◌, ℕ, suc, ◌+◌, ◌-◌, ◌*◌, ◌^◌, ◌<◌, ◌≤◌, Bool, true, false, cond, ◌&&◌, eqb, leb, List, [], ◌∷◌, length, get_or, refl, add-zero, add-suc, suc-add, pow-suc, zero-add, add-one, arith, pow-add, leb-true}
 use mathlib.Core.Bool.{false≢true}
 use native.Mathlib.Nat.{pow-le-pow_right}
 use Rattle.digits.specs.Digits.{is_digit, all_digits, value, digits_of, whole_of}
-use Rattle.digits.specs.declared.Number.TheVariants.{Is, No}
 
 -- one digit more
 pub push : (k : ℕ) {v d : ℕ} → v < 10 ^ k → d < 10 → v * 10 + d < 10 ^ (k + 1)
@@ -29,12 +29,12 @@ value_lt (b ∷ bs) k v h l =
     let e = both (leb 48 b) (leb b 57) d.0 in
     rw (add-suc, ← suc-add) (value_lt bs (suc k) (v * 10 + (b - 48)) d.1 (rw add-one at (push k {d = b - 48} l (omega (arith, leb-true b 57 e.1)))))
 
-pub cond_is : (t : Bool) (x v : ℕ) → cond t (Is x) No ≡ Is v → (t ≡ true) × (x ≡ v)
+pub cond_is : (t : Bool) (x v : ℕ) → cond t (Some x) None ≡ Some v → (t ≡ true) × (x ≡ v)
 cond_is true x v h = (refl, cc)
 cond_is false x v h = let z : ◌≡◌ {A = ℕ} 0 1 = cc in absurd (omega arith)
 
 -- the width's law: what is read has at most w digits, and is below ten to their number
-pub digits_width : (w : ℕ) (bs : List ℕ) {n : ℕ} → digits_of w bs ≡ Is n → (length bs ≤ w) × (n < 10 ^ length bs)
+pub digits_width : (w : ℕ) (bs : List ℕ) {n : ℕ} → digits_of w bs ≡ Some n → (length bs ≤ w) × (n < 10 ^ length bs)
 unfolding digits_of
 digits_width w bs {n} h =
     let a = cond_is (leb 1 (length bs) && (leb (length bs) w && (leb w 18 && all_digits bs))) (value 0 bs) n h in
@@ -45,19 +45,19 @@ digits_width w bs {n} h =
     (leb-true _ _ d.0, rw (← a.1) (rw zero-add at l))
 
 -- and so below ten to the w
-pub below : (w : ℕ) (bs : List ℕ) {n : ℕ} → digits_of w bs ≡ Is n → n < 10 ^ w
+pub below : (w : ℕ) (bs : List ℕ) {n : ℕ} → digits_of w bs ≡ Some n → n < 10 ^ w
 below w bs {n} h =
     let a = digits_width w bs h in
     let p : 10 ^ length bs ≤ 10 ^ w = pow-le-pow_right (omega arith) a.0 in
     omega arith
 
-pub whole_is_digits : (w : ℕ) (bs : List ℕ) {n : ℕ} → whole_of w bs ≡ Is n → digits_of w bs ≡ Is n
+pub whole_is_digits : (w : ℕ) (bs : List ℕ) {n : ℕ} → whole_of w bs ≡ Some n → digits_of w bs ≡ Some n
 unfolding whole_of
 whole_is_digits w bs {n} = go (leb 2 (length bs) && eqb (get_or bs 0 0) 48)
   where
-    go : (t : Bool) → cond t No (digits_of w bs) ≡ Is n → digits_of w bs ≡ Is n
+    go : (t : Bool) → cond t None (digits_of w bs) ≡ Some n → digits_of w bs ≡ Some n
     go true e = let z : ◌≡◌ {A = ℕ} 0 1 = cc in absurd (omega arith)
     go false e = e
 
-pub whole_below : (w : ℕ) (bs : List ℕ) {n : ℕ} → whole_of w bs ≡ Is n → n < 10 ^ w
+pub whole_below : (w : ℕ) (bs : List ℕ) {n : ℕ} → whole_of w bs ≡ Some n → n < 10 ^ w
 whole_below w bs e = below w bs (whole_is_digits w bs e)

@@ -9,13 +9,6 @@
 ghost use Rattle.std.specs.Prelude.{◌≡◌, ◌+◌, ◌-◌, ◌*◌, ◌/◌, ◌%◌, ◌^◌, ◌<◌, ◌≤◌, ◌&&◌, [], ◌∷◌, ◌++◌, map, length, take, drop, replicate, if◌then◌else◌, ◌==◌, bit_and, bit_xor, nat_eq, nat_le, slice_index};
 ghost use Rattle.digits.specs.Digits.{digits_of, whole_of, ranged_of};
 
-// A number that was read, or none.
-#[derive(Clone, Copy)]
-pub enum Number {
-    Is(u64),
-    No,
-}
-
 // As many digits as are sure to fit 64 bits with one more.
 const WIDEST: usize = 18;
 
@@ -89,28 +82,28 @@ fn four(w: u64) -> u64
 }
 
 // What the four bytes of a word write, if each is worth a digit.
-fn written(w: u64) -> Number
+fn written(w: u64) -> Option<u64>
     requires { w < 2 ^ 32 }
     ensures { result ≡ digits_of 4 ((w % 256 + 48) ∷ (w / 256 % 256 + 48) ∷ (w / 65536 % 256 + 48) ∷ (w / 16777216 + 48) ∷ []) }
 {
     if (w & UPPER) | ((w + SIXES) & UPPER) != 0 {
-        return Number::No;
+        return None;
     }
-    Number::Is(four(w))
+    Some(four(w))
 }
 
 // What the eight bytes of two words write. Both words are tested at once; the sum wraps only where the last byte has an upper bit,
 // which the first test finds.
-fn both(a: u64, b: u64) -> Number
+fn both(a: u64, b: u64) -> Option<u64>
     requires { (a < 2 ^ 32) × (b < 2 ^ 32) }
     ensures { result ≡ digits_of 8 ((a % 256 + 48) ∷ (a / 256 % 256 + 48) ∷ (a / 65536 % 256 + 48) ∷ (a / 16777216 + 48) ∷ (b % 256 + 48) ∷ (b / 256 % 256 + 48) ∷ (b / 65536 % 256 + 48) ∷ (b / 16777216 + 48) ∷ []) }
 {
     let w = a + b * WORDS;
     let more = std::num::wrapping_add_u64(w, SIXES_BOTH);
     if (w & UPPER_BOTH) | (more & UPPER_BOTH) != 0 {
-        return Number::No;
+        return None;
     }
-    Number::Is(four(a) * 10000 + four(b))
+    Some(four(a) * 10000 + four(b))
 }
 
 // The word of the first bytes of a text, at most four: zeros come before them, and the bytes after them go.
@@ -123,7 +116,7 @@ fn front(text: &[u8], count: usize) -> u64
 }
 
 // The first digits, at most four.
-fn first(text: &[u8], count: usize) -> Number
+fn first(text: &[u8], count: usize) -> Option<u64>
     requires { (count ≤ 4) × (4 ≤ length text.now) }
     ensures { result ≡ digits_of 4 (replicate (4 - count) 48 ++ take count text.now) }
 {
@@ -131,7 +124,7 @@ fn first(text: &[u8], count: usize) -> Number
 }
 
 // The four digits from a place on.
-fn next(text: &[u8], at: usize) -> Number
+fn next(text: &[u8], at: usize) -> Option<u64>
     requires { at + 4 ≤ length text.now }
     ensures { result ≡ digits_of 4 (take 4 (drop at text.now)) }
 {
@@ -139,34 +132,34 @@ fn next(text: &[u8], at: usize) -> Number
 }
 
 // 1 to 3 digits.
-fn short(text: &[u8]) -> Number
+fn short(text: &[u8]) -> Option<u64>
     requires { (1 ≤ length text.now) × (length text.now ≤ 3) }
     ensures { result ≡ digits_of 18 text.now }
 {
     let n = text.len();
     let a = worth(text[0]);
     if 9 < a {
-        return Number::No;
+        return None;
     }
     if n == 1 {
-        return Number::Is(a);
+        return Some(a);
     }
     let b = worth(text[1]);
     if 9 < b {
-        return Number::No;
+        return None;
     }
     if n == 2 {
-        return Number::Is(a * 10 + b);
+        return Some(a * 10 + b);
     }
     let c = worth(text[2]);
     if 9 < c {
-        return Number::No;
+        return None;
     }
-    Number::Is((a * 10 + b) * 10 + c)
+    Some((a * 10 + b) * 10 + c)
 }
 
 // 4 to 8 digits: those before the last four, and the last four.
-fn middle(text: &[u8]) -> Number
+fn middle(text: &[u8]) -> Option<u64>
     requires { (4 ≤ length text.now) × (length text.now ≤ 8) }
     ensures { result ≡ digits_of 18 text.now }
 {
@@ -177,29 +170,29 @@ fn middle(text: &[u8]) -> Number
 }
 
 // 4 digits or more: the first one to four, then four a turn.
-fn long(text: &[u8]) -> Number
+fn long(text: &[u8]) -> Option<u64>
     requires { (4 ≤ length text.now) × (length text.now ≤ 18) }
     ensures { result ≡ digits_of 18 text.now }
 {
     let n = text.len();
     let k = (n - 1) % 4 + 1;
-    let Number::Is(a) = first(text, k) else {
-        return Number::No;
+    let Some(a) = first(text, k) else {
+        return None;
     };
     let mut v = a;
     let mut i = k;
     while i < n {
-        let Number::Is(w) = next(text, i) else {
-            return Number::No;
+        let Some(w) = next(text, i) else {
+            return None;
         };
         v = v * 10000 + w;
         i += 4;
     }
-    Number::Is(v)
+    Some(v)
 }
 
 // 4 to 18 digits: `long` would do for all, and `middle` takes less.
-fn many(text: &[u8]) -> Number
+fn many(text: &[u8]) -> Option<u64>
     requires { (4 ≤ length text.now) × (length text.now ≤ 18) }
     ensures { result ≡ digits_of 18 text.now }
 {
@@ -212,7 +205,7 @@ fn many(text: &[u8]) -> Number
 // 1 to width digits as their number, or NONE, where these may be more than few.
 fn read(text: &[u8], width: usize) -> u64
     requires { 3 < width }
-    ensures { digits_of width text.now ≡ (if nat_eq result 18446744073709551615 then Number.No else Number.Is result) }
+    ensures { digits_of width text.now ≡ (if nat_eq result 18446744073709551615 then None else Some result) }
 {
     let n = text.len();
     if WIDEST < width {
@@ -222,7 +215,7 @@ fn read(text: &[u8], width: usize) -> u64
         if n == 0 {
             return NONE;
         }
-        let Number::Is(v) = short(text) else {
+        let Some(v) = short(text) else {
             return NONE;
         };
         return v;
@@ -230,7 +223,7 @@ fn read(text: &[u8], width: usize) -> u64
     if width < n {
         return NONE;
     }
-    let Number::Is(v) = many(text) else {
+    let Some(v) = many(text) else {
         return NONE;
     };
     v
@@ -238,32 +231,32 @@ fn read(text: &[u8], width: usize) -> u64
 
 // 1 to width digits where these are few, one a turn.
 #[tactic(auto, using(crate::proofs::Steps::other))]
-fn few(text: &[u8], width: usize) -> Number
+fn few(text: &[u8], width: usize) -> Option<u64>
     requires { width ≤ 3 }
     ensures { result ≡ digits_of width text.now }
 {
     let n = text.len();
     if n == 0 {
-        return Number::No;
+        return None;
     }
     if n > width {
-        return Number::No;
+        return None;
     }
     let mut v: u64 = 0;
     let mut i: usize = 0;
     while i < n {
         let d = worth(text[i]);
         if 9 < d {
-            return Number::No;
+            return None;
         }
         v = v * 10 + d;
         i += 1;
     }
-    Number::Is(v)
+    Some(v)
 }
 
 // 1 to width digits, leading zeros allowed; a width above 18 reads nothing.
-pub fn digits(text: &[u8], width: usize) -> Number
+pub fn digits(text: &[u8], width: usize) -> Option<u64>
     ensures { result ≡ digits_of width text.now }
 {
     if width <= FEW {
@@ -271,9 +264,9 @@ pub fn digits(text: &[u8], width: usize) -> Number
     }
     let v = read(text, width);
     if v == NONE {
-        return Number::No;
+        return None;
     }
-    Number::Is(v)
+    Some(v)
 }
 
 // Whether a zero stands before other bytes.
@@ -287,34 +280,34 @@ fn leads(text: &[u8]) -> bool
 }
 
 // A whole number: 1 to width digits without a leading zero, except 0 itself. Not by `digits`: a function with two callers stays one.
-pub fn whole(text: &[u8], width: usize) -> Number
+pub fn whole(text: &[u8], width: usize) -> Option<u64>
     ensures { result ≡ whole_of width text.now }
 {
     if leads(text) {
-        return Number::No;
+        return None;
     }
     if width <= FEW {
         return few(text, width);
     }
     let v = read(text, width);
     if v == NONE {
-        return Number::No;
+        return None;
     }
-    Number::Is(v)
+    Some(v)
 }
 
 // A whole number of at most width digits, from low to high.
-pub fn ranged(text: &[u8], width: usize, low: u64, high: u64) -> Number
+pub fn ranged(text: &[u8], width: usize, low: u64, high: u64) -> Option<u64>
     ensures { result ≡ ranged_of width low high text.now }
 {
-    let Number::Is(v) = whole(text, width) else {
-        return Number::No;
+    let Some(v) = whole(text, width) else {
+        return None;
     };
     if v < low {
-        return Number::No;
+        return None;
     }
     if high < v {
-        return Number::No;
+        return None;
     }
-    Number::Is(v)
+    Some(v)
 }

@@ -1,11 +1,9 @@
 -- What J says, by the tests of its tags. Assumes nothing.
+use Rattle.std.specs.Prelude.{Option, Some, None}
 use mathlib.Core.Path.{◌≡◌, sym, ap, ◌∙◌}
 use mathlib.Core.Bool.{Bool, true, false, cond, ◌&&◌}
-use mathlib.Core.Option.{none}
 use Prim.Native.Nat.{ℕ}
 use Rattle.book.specs.Rules.{empty_of_all}
-use Rattle.digits.specs.declared.Number.{Number}
-use Rattle.digits.specs.declared.Number.TheVariants.{Is, No}
 use Rattle.values.specs.Values.{◌>>=◌, need, Values, number, instrument_of}
 use Rattle.entries.specs.Entries.{empties, absent, empty_all, empty_book, said}
 use Rattle.entries.specs.declared.Said.{Said}
@@ -15,11 +13,11 @@ module _ (v : Values) where
   abbrev all_by : Bool → Bool → Said
   all_by a b = said (need (a && b) (empties 0 empty_of_all))
 
-  pub has_source : absent 22 v ≡ false → said none ≡ said (empty_all v)
+  pub has_source : absent 22 v ≡ false → said None ≡ said (empty_all v)
   unfolding empty_all
   has_source e = sym (ap (λ (a : Bool). all_by a (absent 207 v)) e)
 
-  pub has_market : absent 22 v ≡ true → absent 207 v ≡ false → said none ≡ said (empty_all v)
+  pub has_market : absent 22 v ≡ true → absent 207 v ≡ false → said None ≡ said (empty_all v)
   unfolding empty_all
   has_market e f = sym (ap (λ (a : Bool). all_by a (absent 207 v)) e ∙ ap (all_by true) f)
 
@@ -28,7 +26,7 @@ module _ (v : Values) where
   has_neither e f = sym (ap (λ (a : Bool). all_by a (absent 207 v)) e ∙ ap (all_by true) f)
 
   -- with 48 or without
-  abbrev by_name : Number → Said
+  abbrev by_name : Option ℕ → Said
   by_name id = said (number id >>= λ id. empties id 2)
 
   abbrev book_by : Bool → Said
@@ -39,10 +37,10 @@ module _ (v : Values) where
   has_no_name e = sym (ap book_by e)
 
   module _ (e : absent 48 v ≡ false) where
-    pub has_bad_name : instrument_of v ≡ No → said none ≡ said (empty_book v)
+    pub has_bad_name : instrument_of v ≡ None → said None ≡ said (empty_book v)
     unfolding empty_book
     has_bad_name n = sym (ap book_by e ∙ ap by_name n)
 
-    pub has_name : (id : ℕ) → instrument_of v ≡ Is id → said (empties id 2) ≡ said (empty_book v)
+    pub has_name : (id : ℕ) → instrument_of v ≡ Some id → said (empties id 2) ≡ said (empty_book v)
     unfolding empty_book
     has_name id n = sym (ap book_by e ∙ ap by_name n)

@@ -1,6 +1,6 @@
 -- What an entry says (document 01, "Fields", third paragraph). Values that an entry doesn't need are not read.
+use Rattle.std.specs.Prelude.{Option, Some, None}
 use Rattle.std.specs.Prelude.{ℕ, Bool, cond, ◌&&◌, leb, eqb, length}
-use Rattle.std.proofs.Math.Option.{Option, none, some}
 use Rattle.book.specs.declared.Update.{Update}
 use Rattle.book.specs.Rules.{empty_of_all}
 use Rattle.book.specs.Sides.{no_entry}
@@ -9,17 +9,17 @@ use Rattle.entries.specs.declared.Said.{Said}
 
 -- An entry says one update, or it is passed over.
 abbrev pub says : Update → Option (Option Update)
-says u = some (some u)
+says u = Some (Some u)
 
 abbrev pub passed_over : Option (Option Update)
-passed_over = some none
+passed_over = Some None
 
 -- Bids and offers in X need 290, 48 and 22; new and change also the values of a place.
 unfoldable pub book_entry : ℕ → ℕ → ℕ → Values → Option (Option Update)
 book_entry depth side action v =
     place_at v >>= λ place.
     instrument_at v >>= λ id.
-    cond (leb action 1) (values_of depth v) (some no_entry) >>= λ entry.
+    cond (leb action 1) (values_of depth v) (Some no_entry) >>= λ entry.
     says (record { who = id; what = side; action = action; place = place; entry = entry })
 
 -- J: of one instrument, or for all.
@@ -57,6 +57,6 @@ entry_in_w depth id v = sort_at v >>= λ sort. cond (leb sort 1) (shown_entry de
 
 -- The code's answer.
 unfoldable pub said : Option (Option Update) → Said
-said none = Said.Bad
-said (some none) = Said.Passed
-said (some (some u)) = Said.Is u
+said None = Said.Bad
+said (Some None) = Said.Passed
+said (Some (Some u)) = Said.Is u

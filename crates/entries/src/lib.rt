@@ -7,7 +7,6 @@ ghost use Rattle.tags.specs.Slots.{text_at, marked};
 ghost use Rattle.entries.specs.Entries.{book_entry, empty_all, empty_book, entry_in_x, shown_entry, entry_in_w, said};
 
 use book::Update;
-use digits::Number;
 use tags::Marks;
 use values::Valued;
 
@@ -23,10 +22,10 @@ pub enum Said {
 fn book_entry(s: &[u8], depth: u64, side: u64, action: u64, m: Marks) -> Said
     ensures { result ≡ said (book_entry depth side action (marked s.now m)) }
 {
-    let Number::Is(place) = digits::ranged(tags::value(s, m, tags::POSITION), 5, 1, 65535) else {
+    let Some(place) = digits::ranged(tags::value(s, m, tags::POSITION), 5, 1, 65535) else {
         return Said::Bad;
     };
-    let Number::Is(id) = values::instrument(s, m) else {
+    let Some(id) = values::instrument(s, m) else {
         return Said::Bad;
     };
     // the deletes come after change
@@ -85,7 +84,7 @@ fn empty_book(s: &[u8], m: Marks) -> Said
     if absent(s, m, tags::INSTRUMENT) {
         return empty_all(s, m);
     }
-    let Number::Is(id) = values::instrument(s, m) else {
+    let Some(id) = values::instrument(s, m) else {
         return Said::Bad;
     };
     Said::Is(Update {
@@ -101,10 +100,10 @@ fn empty_book(s: &[u8], m: Marks) -> Said
 pub fn in_x(s: &[u8], depth: u64, m: Marks) -> Said
     ensures { result ≡ said (entry_in_x depth (marked s.now m)) }
 {
-    let Number::Is(action) = digits::ranged(tags::value(s, m, tags::ACTION), 1, 0, 4) else {
+    let Some(action) = digits::ranged(tags::value(s, m, tags::ACTION), 1, 0, 4) else {
         return Said::Bad;
     };
-    let Number::Is(sort) = values::sort(tags::value(s, m, tags::SORT)) else {
+    let Some(sort) = values::sort(tags::value(s, m, tags::SORT)) else {
         return Said::Bad;
     };
     if sort <= book::OFFER {
@@ -120,7 +119,7 @@ pub fn in_x(s: &[u8], depth: u64, m: Marks) -> Said
 fn shown_entry(s: &[u8], depth: u64, id: u64, side: u64, m: Marks) -> Said
     ensures { result ≡ said (shown_entry depth id side (marked s.now m)) }
 {
-    let Number::Is(place) = digits::ranged(tags::value(s, m, tags::POSITION), 5, 1, 65535) else {
+    let Some(place) = digits::ranged(tags::value(s, m, tags::POSITION), 5, 1, 65535) else {
         return Said::Bad;
     };
     let Valued::Is(e) = values::values(s, depth, m) else {
@@ -139,7 +138,7 @@ fn shown_entry(s: &[u8], depth: u64, id: u64, side: u64, m: Marks) -> Said
 pub fn in_w(s: &[u8], depth: u64, id: u64, m: Marks) -> Said
     ensures { result ≡ said (entry_in_w depth id (marked s.now m)) }
 {
-    let Number::Is(sort) = values::sort(tags::value(s, m, tags::SORT)) else {
+    let Some(sort) = values::sort(tags::value(s, m, tags::SORT)) else {
         return Said::Bad;
     };
     if sort <= book::OFFER {

@@ -1,8 +1,8 @@
 -- The whole message: what its body says where that reads well, else why it is not read. Assumes nothing.
+use Rattle.std.specs.Prelude.{Option, Some, None}
 use mathlib.Core.Path.{◌≡◌, refl, sym, ap, ◌∙◌}
 use mathlib.Core.List.{List}
 use mathlib.Core.Bool.{Bool, true, false, false≢true, true≢false}
-use mathlib.Core.Option.{Option, none, some}
 use Prim.Native.Nat.{ℕ, ◌-◌}
 use lib.ListN.{length}
 use Rattle.message.specs.Message.{Message, numbered, snapshot, refused, told}
@@ -33,13 +33,13 @@ was_read Snapshot = true
 was_read (Refused why) = false
 
 -- a message that is not refused was read, and no message was not
-some_read : (m : Message) → is_read m ≡ true → was_read (told (or_bad_fields (some m))).reading.verdict ≡ true
+some_read : (m : Message) → is_read m ≡ true → was_read (told (or_bad_fields (Some m))).reading.verdict ≡ true
 unfolding told or_bad_fields
 some_read (numbered n at us) h = refl
 some_read (snapshot s us) h = refl
 some_read (refused v) h = absurd (false≢true h)
 
-none_read : was_read (told (or_bad_fields none)).reading.verdict ≡ false
+none_read : was_read (told (or_bad_fields None)).reading.verdict ≡ false
 unfolding told or_bad_fields
 none_read = refl
 
@@ -51,20 +51,20 @@ module _ (depth kind : ℕ) (fs : List Field) {r : Reading} {xs ys : List ℕ} (
       ∙ ap (λ (o : Option Message). was_read (told (or_bad_fields o)).reading.verdict) e
 
   -- the fields say a message
-  said : was_read r.verdict ≡ true → (m : Message) × (typed_as depth kind fs ≡ some m)
+  said : was_read r.verdict ≡ true → (m : Message) × (typed_as depth kind fs ≡ Some m)
   said q = go (typed_as depth kind fs) refl
     where
-      go : (o : Option Message) → typed_as depth kind fs ≡ o → (m : Message) × (o ≡ some m)
-      go none e = absurd (false≢true (sym (verdict_is none e ∙ none_read) ∙ q))
-      go (some m) e = (m, refl)
+      go : (o : Option Message) → typed_as depth kind fs ≡ o → (m : Message) × (o ≡ Some m)
+      go None e = absurd (false≢true (sym (verdict_is None e ∙ none_read) ∙ q))
+      go (Some m) e = (m, refl)
 
   -- they say none
-  unsaid : was_read r.verdict ≡ false → typed_as depth kind fs ≡ none
+  unsaid : was_read r.verdict ≡ false → typed_as depth kind fs ≡ None
   unsaid q = go (typed_as depth kind fs) refl
     where
-      go : (o : Option Message) → typed_as depth kind fs ≡ o → o ≡ none
-      go none e = refl
-      go (some m) e = absurd (true≢false (sym (verdict_is (some m) e ∙ some_read m (typed_well fs depth kind e).read) ∙ q))
+      go : (o : Option Message) → typed_as depth kind fs ≡ o → o ≡ None
+      go None e = refl
+      go (Some m) e = absurd (true≢false (sym (verdict_is (Some m) e ∙ some_read m (typed_well fs depth kind e).read) ∙ q))
 
 -- ---- the message
 module _ (depth : ℕ) (s : List ℕ) where
@@ -82,7 +82,7 @@ module _ (depth : ℕ) (s : List ℕ) where
   body_is {kind} {from} e = rw (e, left_whole (inner from) 0 (framing s e).body)
 
   -- without, or where it says nothing, the message is refused
-  refusal_is : ((kind from : ℕ) → frame_of s ≡ Framed.Is kind from → body_as kind from ≡ none)
+  refusal_is : ((kind from : ℕ) → frame_of s ≡ Framed.Is kind from → body_as kind from ≡ None)
       → told (refused (refusal_of (frame_of s))) ≡ told (message_in depth s)
   unfolding message_in
   refusal_is h = go (frame_of s) refl
@@ -104,7 +104,7 @@ module _ (depth : ℕ) (s : List ℕ) where
         → Reads (told (or_bad_fields (body_as kind from))) p xs ys → was_read p.verdict ≡ false → Reads (told (message_in depth s)) r xs ys
     body_refused {kind} {from} o h v = reads_as (refused_reads (refusal_of (frame_of s)) xs ys r q h.run) (refusal_is none_of)
       where
-        none_of : (k f : ℕ) → frame_of s ≡ Framed.Is k f → body_as k f ≡ none
+        none_of : (k f : ℕ) → frame_of s ≡ Framed.Is k f → body_as k f ≡ None
         none_of k f e =
             let same : Framed.Is kind from ≡ Framed.Is k f = sym o ∙ outlined s k f e in
             let a : kind ≡ k = cc in

@@ -1,8 +1,7 @@
 -- The frame read by places is the frame by fields. Assumes nothing.
+use Rattle.std.specs.Prelude.{Option, Some, None}
 use Rattle.std.proofs.Common.{◌≡◌, ℕ, ◌+◌, ◌-◌, ◌%◌, ◌<◌, ◌≤◌, Bool, true, false, cond, ◌&&◌, eqb, leb, ◌⊎◌, List, [], ◌∷◌, ◌++◌, length, get_or, take, drop, sym, refl, ap, ◌∙◌, inl, inr, arith, length-append, length-drop, take-append-drop, drop_of_length-le, length-take, take_all, drop-cons, drop-drop, eq-eqb, ne_eqb, eqb-true, leb-true}
-use mathlib.Core.Option.{Option, none, some}
 use Rattle.digits.specs.Digits.{digits_of, whole_of}
-use Rattle.digits.specs.declared.Number.{Number}
 use Rattle.digits.proofs.Width.{both, below}
 use Rattle.text.specs.Text.{fixed, decimal}
 use Rattle.chain.specs.Fields.{Field, field, fields_of}
@@ -19,19 +18,19 @@ use Rattle.frame.proofs.Opened.{equal_is, opened, opened_inside, Shaped, shaped}
 use Rattle.frame.proofs.Well.{Well, whole_is, ten_bytes, length_ten, chain_well, parts_well, frame_well}
 
 -- three digits are what they say, in three digits
-pub three_digits : (z : List ℕ) (v : ℕ) → length z ≡ 3 → digits_of 3 z ≡ Number.Is v → (fixed 3 v ≡ z) × (v < 1000)
+pub three_digits : (z : List ℕ) (v : ℕ) → length z ≡ 3 → digits_of 3 z ≡ Some v → (fixed 3 v ≡ z) × (v < 1000)
 three_digits z v l e =
     let r = read_digits 3 z e in
     let f : fixed 3 v ≡ z = rw (l, r.is) at (fixed_back z r.all) in
     (f, below 3 z e)
 
 -- a trailer that says v
-pub trailer_only : (t : List ℕ) (v : ℕ) → trailer_of t ≡ Number.Is v → (t ≡ field_bytes (field 10 (fixed 3 v))) × (v < 1000)
+pub trailer_only : (t : List ℕ) (v : ℕ) → trailer_of t ≡ Some v → (t ≡ field_bytes (field 10 (fixed 3 v))) × (v < 1000)
 unfolding trailer_of
 trailer_only t v e = go (eqb (length t) 7) (equal (take 3 t) (49 ∷ 48 ∷ 61 ∷ [])) (eqb (get_or t 6 0) 1) refl refl refl e
   where
     go : (a b c : Bool) → eqb (length t) 7 ≡ a → equal (take 3 t) (49 ∷ 48 ∷ 61 ∷ []) ≡ b → eqb (get_or t 6 0) 1 ≡ c
-        → cond (a && (b && c)) (digits_of 3 (part 3 6 t)) Number.No ≡ Number.Is v → (t ≡ field_bytes (field 10 (fixed 3 v))) × (v < 1000)
+        → cond (a && (b && c)) (digits_of 3 (part 3 6 t)) None ≡ Some v → (t ≡ field_bytes (field 10 (fixed 3 v))) × (v < 1000)
     go true true true p q r h =
         let l : length t ≡ 7 = eqb-true (length t) 7 p in
         let w : length (part 3 6 t) ≡ 3 = rw (length-take, length-drop) (omega arith) in
@@ -51,9 +50,9 @@ pub record Held (s : List ℕ) : Type 0 where
   pub well : Well s c body v
 
 -- ---- read by places
-some_is : (o : Option (List Field)) → is_some o ≡ true → (fs : List Field) × (o ≡ some fs)
-some_is none e = let z : ◌≡◌ {A = ℕ} 0 1 = cc in absurd (omega arith)
-some_is (some fs) e = (fs, refl)
+some_is : (o : Option (List Field)) → is_some o ≡ true → (fs : List Field) × (o ≡ Some fs)
+some_is None e = let z : ◌≡◌ {A = ℕ} 0 1 = cc in absurd (omega arith)
+some_is (Some fs) e = (fs, refl)
 
 module _ (s : List ℕ) {from to v : ℕ} (x : Shaped s from to v) (chain : is_some (fields_of (part (to + 1) (length s - 7) s)) ≡ true) where
   abbrev end : ℕ
@@ -62,7 +61,7 @@ module _ (s : List ℕ) {from to v : ℕ} (x : Shaped s from to v) (chain : is_s
   abbrev c : List ℕ
   c = part from to s
 
-  chained_body : (fs : List Field) × (fields_of (part (to + 1) end s) ≡ some fs)
+  chained_body : (fs : List Field) × (fields_of (part (to + 1) end s) ≡ Some fs)
   chained_body = some_is (fields_of (part (to + 1) end s)) chain
 
   abbrev body : List Field
@@ -118,9 +117,9 @@ pub front_last : (a f : Field) (fs : List Field) → front_of (f ∷ fs) ++ (las
 front_last a f [] = refl
 front_last a f (g ∷ fs) = ap (λ (r : List Field). f ∷ r) (front_last f g fs)
 
-reads_is : (r : Number) (n : ℕ) → reads r n ≡ true → r ≡ Number.Is n
-reads_is Number.No n e = let z : ◌≡◌ {A = ℕ} 0 1 = cc in absurd (omega arith)
-reads_is (Number.Is v) n e = ap Number.Is (eqb-true v n e)
+reads_is : (r : Option ℕ) (n : ℕ) → reads r n ≡ true → r ≡ Some n
+reads_is None n e = let z : ◌≡◌ {A = ℕ} 0 1 = cc in absurd (omega arith)
+reads_is (Some v) n e = ap Some (eqb-true v n e)
 
 pub counts_is : (b : Field) (fs : List Field) → counts b fs ≡ true → b ≡ field 9 (decimal (length (bytes_of fs)))
 counts_is b fs e =
@@ -132,10 +131,10 @@ begins_is a e =
     let d = both (eqb a.tag 8) (equal a.text begin) e in
     field_is a 8 begin (eqb-true a.tag 8 d.0) (equal_is a.text begin d.1)
 
-pub sum_is : (z : Field) (v : ℕ) → sum_of z ≡ Number.Is v → (z ≡ field 10 (fixed 3 v)) × (v < 1000)
+pub sum_is : (z : Field) (v : ℕ) → sum_of z ≡ Some v → (z ≡ field 10 (fixed 3 v)) × (v < 1000)
 sum_is z v e = go (eqb z.tag 10) (eqb (length z.text) 3) refl refl e
   where
-    go : (a b : Bool) → eqb z.tag 10 ≡ a → eqb (length z.text) 3 ≡ b → cond (a && b) (digits_of 3 z.text) Number.No ≡ Number.Is v
+    go : (a b : Bool) → eqb z.tag 10 ≡ a → eqb (length z.text) 3 ≡ b → cond (a && b) (digits_of 3 z.text) None ≡ Some v
         → (z ≡ field 10 (fixed 3 v)) × (v < 1000)
     go true true p q h =
         let d = three_digits z.text v (eqb-true (length z.text) 3 q) h in
@@ -150,13 +149,13 @@ fair_front (f ∷ a) b h = let d = both (fair f) (all_fair (a ++ b)) h in rw (d.
 after_two : (a b c : Field) (fs : List Field) → all_fair (a ∷ b ∷ c ∷ fs) ≡ true → (fair c ≡ true) × (all_fair fs ≡ true)
 after_two a b c fs h = both (fair c) (all_fair fs) (both (fair b) (fair c && all_fair fs) (both (fair a) (fair b && (fair c && all_fair fs)) h).1).1
 
-module _ (s : List ℕ) (a b c : Field) (fs : List Field) (v : ℕ) (e : fields_of s ≡ some (a ∷ b ∷ c ∷ fs)) (short : length s ≤ 8192)
-    (first : begins a ≡ true) (second : counts b (c ∷ front_of fs) ≡ true) (third : eqb c.tag 35 ≡ true) (last : sum_of (last_of c fs) ≡ Number.Is v) where
+module _ (s : List ℕ) (a b c : Field) (fs : List Field) (v : ℕ) (e : fields_of s ≡ Some (a ∷ b ∷ c ∷ fs)) (short : length s ≤ 8192)
+    (first : begins a ≡ true) (second : counts b (c ∷ front_of fs) ≡ true) (third : eqb c.tag 35 ≡ true) (last : sum_of (last_of c fs) ≡ Some v) where
   -- 35 is not the last
   others : front_of fs ++ (last_of c fs ∷ []) ≡ fs
   others = go fs last
     where
-      go : (gs : List Field) → sum_of (last_of c gs) ≡ Number.Is v → front_of gs ++ (last_of c gs ∷ []) ≡ gs
+      go : (gs : List Field) → sum_of (last_of c gs) ≡ Some v → front_of gs ++ (last_of c gs ∷ []) ≡ gs
       go [] h = absurd (omega (arith, ap (λ (f : Field). f.tag) (sum_is c v h).0, eqb-true c.tag 35 third))
       go (g ∷ gs) h = front_last c g gs
 
@@ -188,13 +187,13 @@ pub frame_cases : (s : List ℕ) → (frame_of s ≡ Framed.BadFrame) ⊎ Held s
 unfolding frame_of
 frame_cases s = go (leb 1 (length s)) (leb (length s) 8192) (fields_of s) refl refl
   where
-    summing : (a b c : Field) (fs : List Field) (r : Number) (t : Framed) → fields_of s ≡ some (a ∷ b ∷ c ∷ fs) → length s ≤ 8192
+    summing : (a b c : Field) (fs : List Field) (r : Option ℕ) (t : Framed) → fields_of s ≡ Some (a ∷ b ∷ c ∷ fs) → length s ≤ 8192
         → begins a ≡ true → counts b (c ∷ front_of fs) ≡ true → eqb c.tag 35 ≡ true → sum_of (last_of c fs) ≡ r
         → (summed r (a ∷ b ∷ c ∷ front_of fs) t ≡ Framed.BadFrame) ⊎ Held s
-    summing a b c fs Number.No t e l f g h i = inl refl
-    summing a b c fs (Number.Is v) t e l f g h i = inr (fields_held s a b c fs v e l f g h i)
+    summing a b c fs None t e l f g h i = inl refl
+    summing a b c fs (Some v) t e l f g h i = inr (fields_held s a b c fs v e l f g h i)
 
-    testing : (a b c : Field) (fs : List Field) (x y z : Bool) → fields_of s ≡ some (a ∷ b ∷ c ∷ fs) → length s ≤ 8192
+    testing : (a b c : Field) (fs : List Field) (x y z : Bool) → fields_of s ≡ Some (a ∷ b ∷ c ∷ fs) → length s ≤ 8192
         → begins a ≡ x → counts b (c ∷ front_of fs) ≡ y → eqb c.tag 35 ≡ z
         → (cond (x && (y && z)) (summed (sum_of (last_of c fs)) (a ∷ b ∷ c ∷ front_of fs) (typed c.text (length (bytes_of (a ∷ b ∷ c ∷ []))))) Framed.BadFrame ≡ Framed.BadFrame) ⊎ Held s
     testing a b c fs true true true e l f g h = summing a b c fs (sum_of (last_of c fs)) (typed c.text (length (bytes_of (a ∷ b ∷ c ∷ [])))) e l f g h refl
@@ -206,11 +205,11 @@ frame_cases s = go (leb 1 (length s)) (leb (length s) 8192) (fields_of s) refl r
         → (cond (x && y) (chained o) Framed.BadFrame ≡ Framed.BadFrame) ⊎ Held s
     go false y o p e = inl refl
     go true false o p e = inl refl
-    go true true none p e = inl refl
-    go true true (some []) p e = inl refl
-    go true true (some (a ∷ [])) p e = inl refl
-    go true true (some (a ∷ b ∷ [])) p e = inl refl
-    go true true (some (a ∷ b ∷ c ∷ fs)) p e = testing a b c fs (begins a) (counts b (c ∷ front_of fs)) (eqb c.tag 35) e (leb-true (length s) 8192 p) refl refl refl
+    go true true None p e = inl refl
+    go true true (Some []) p e = inl refl
+    go true true (Some (a ∷ [])) p e = inl refl
+    go true true (Some (a ∷ b ∷ [])) p e = inl refl
+    go true true (Some (a ∷ b ∷ c ∷ fs)) p e = testing a b c fs (begins a) (counts b (c ∷ front_of fs)) (eqb c.tag 35) e (leb-true (length s) 8192 p) refl refl refl
 
 -- the frame by its places
 pub by_places : (s : List ℕ) → frame_of s ≡ frame_in s (parts_of s)

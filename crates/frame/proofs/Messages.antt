@@ -1,7 +1,7 @@
 -- The messages that frame are exactly those that the frame's writer writes. Assumes nothing.
+use Rattle.std.specs.Prelude.{Some}
 use Rattle.std.proofs.Common.{◌≡◌, ℕ, ◌+◌, ◌-◌, ◌%◌, ◌≤◌, Bool, true, false, cond, not, ◌&&◌, eqb, ◌⊎◌, List, [], ◌∷◌, length, take, sym, refl, ap, ◌∙◌, inl, inr, arith, eq-eqb, eqb-true}
 use mathlib.Core.Bool.{false≢true}
-use mathlib.Core.Option.{some}
 use Rattle.digits.proofs.Width.{both}
 use Rattle.text.specs.Text.{decimal}
 use Rattle.chain.specs.Fields.{Field, field, fields_of}
@@ -21,9 +21,9 @@ pub record Framing (s : List ℕ) (kind from : ℕ) : Type 0 where
   pub short : length s ≤ 8192
   pub long : 7 ≤ length s
   pub inside : from ≤ length s - 7
-  pub body : fields_of (part from (length s - 7) s) ≡ some (body_of s)
+  pub body : fields_of (part from (length s - 7) s) ≡ Some (body_of s)
   pub fair : all_fair (body_of s) ≡ true
-  pub fields : fields_of s ≡ some (framed (field 35 (kind ∷ []) ∷ body_of s))
+  pub fields : fields_of s ≡ Some (framed (field 35 (kind ∷ []) ∷ body_of s))
   pub same : s ≡ bytes_of (framed (field 35 (kind ∷ []) ∷ body_of s))
 
 never : (s : List ℕ) {kind from : ℕ} → frame_of s ≡ Framed.Is kind from → frame_of s ≡ Framed.BadFrame → ⊥
@@ -72,7 +72,7 @@ module _ (s : List ℕ) {kind from : ℕ} (e : frame_of s ≡ Framed.Is kind fro
         inside = omega (arith, told.1.2, l, i);
         body = rw (← told.1.2, b) (chain_well s c body v w);
         fair = rw b (both (fair (field 35 c)) (all_fair body) w.fair).1;
-        fields = fields_well s c body v w ∙ ap some (sym framed_is);
+        fields = fields_well s c body v w ∙ ap Some (sym framed_is);
         same = w.same ∙ ap bytes_of (sym framed_is);
       }
 

@@ -1,7 +1,7 @@
 -- What the first three fields, the trailer and the type say of their places. Assumes nothing.
+use Rattle.std.specs.Prelude.{Option, Some, None}
 use Rattle.std.proofs.Common.{◌≡◌, ℕ, ◌+◌, ◌-◌, ◌<◌, ◌≤◌, Bool, true, false, cond, ◌&&◌, eqb, leb, List, [], ◌∷◌, length, get_or, take, refl, ap, ◌∙◌, arith, length-take, eq-eqb, eqb-true, leb-true}
 use Rattle.digits.specs.Digits.{whole_of}
-use Rattle.digits.specs.declared.Number.{Number}
 use Rattle.digits.proofs.Width.{both, whole_below}
 use Rattle.frame.specs.Frames.{equal, is_type, typed}
 use Rattle.chain.specs.Places.{part, field_at}
@@ -59,7 +59,7 @@ pub record Opened (s : List ℕ) (v at from to : ℕ) : Type 0 where
   pub low : ℕ
   pub high : ℕ
   pub nine : field_at s 10 ≡ Step.Is 9 low high
-  pub count : whole_of 5 (part low high s) ≡ Number.Is v
+  pub count : whole_of 5 (part low high s) ≡ Some v
   pub next : high + 1 ≡ at
   pub third : field_at s at ≡ Step.Is 35 from to
 
@@ -68,7 +68,7 @@ unfolding head_of
 opened s {v} {at} {from} {to} e = begun (equal (take 10 s) preamble) refl e
   where
     thirded : (n p low high : ℕ) (x : Step) → tagged 35 (field_at s p) ≡ x → take 10 s ≡ preamble → field_at s 10 ≡ Step.Is 9 low high
-        → whole_of 5 (part low high s) ≡ Number.Is n → high + 1 ≡ p
+        → whole_of 5 (part low high s) ≡ Some n → high + 1 ≡ p
         → third_of n p x ≡ Opening.Is v at from to → Opened s v at from to
     thirded n p low high Step.No y b f w q h = let z : ◌≡◌ {A = ℕ} 0 1 = cc in absurd (omega arith)
     thirded n p low high (Step.Is u a c) y b f w q h =
@@ -76,12 +76,12 @@ opened s {v} {at} {from} {to} e = begun (equal (take 10 s) preamble) refl e
         let i : p ≡ at = cc in
         let j : a ≡ from = cc in
         let k : c ≡ to = cc in
-        record { begin = b; low = low; high = high; nine = f; count = w ∙ ap Number.Is g; next = q ∙ i; third = rw (i, j, k) at (tagged_is 35 (field_at s p) y) }
+        record { begin = b; low = low; high = high; nine = f; count = w ∙ ap Some g; next = q ∙ i; third = rw (i, j, k) at (tagged_is 35 (field_at s p) y) }
 
-    counted : (low high : ℕ) (r : Number) → whole_of 5 (part low high s) ≡ r → take 10 s ≡ preamble → field_at s 10 ≡ Step.Is 9 low high
+    counted : (low high : ℕ) (r : Option ℕ) → whole_of 5 (part low high s) ≡ r → take 10 s ≡ preamble → field_at s 10 ≡ Step.Is 9 low high
         → count_of s (high + 1) r ≡ Opening.Is v at from to → Opened s v at from to
-    counted low high Number.No w b f h = let z : ◌≡◌ {A = ℕ} 0 1 = cc in absurd (omega arith)
-    counted low high (Number.Is n) w b f h = thirded n (high + 1) low high (tagged 35 (field_at s (high + 1))) refl b f w refl h
+    counted low high None w b f h = let z : ◌≡◌ {A = ℕ} 0 1 = cc in absurd (omega arith)
+    counted low high (Some n) w b f h = thirded n (high + 1) low high (tagged 35 (field_at s (high + 1))) refl b f w refl h
 
     nined : (x : Step) → tagged 9 (field_at s 10) ≡ x → take 10 s ≡ preamble → second_of s x ≡ Opening.Is v at from to → Opened s v at from to
     nined Step.No y b h = let z : ◌≡◌ {A = ℕ} 0 1 = cc in absurd (omega arith)
@@ -113,16 +113,16 @@ pub record Shaped (s : List ℕ) (from to v : ℕ) : Type 0 where
   pub head : head_of s ≡ Opening.Is count at from to
   pub counts : at + count + 7 ≡ length s
   pub order : to + 1 ≤ length s - 7
-  pub trailer : trailer_of (part (length s - 7) (length s) s) ≡ Number.Is v
+  pub trailer : trailer_of (part (length s - 7) (length s) s) ≡ Some v
 
 pub shaped : (s : List ℕ) {from to v : ℕ} → parts_of s ≡ Shape.Is from to v → Shaped s from to v
 unfolding parts_of
 shaped s {from} {to} {v} e = go (leb (length s) 8192) (head_of s) refl refl e
   where
-    read : (n at a c : ℕ) (r : Number) → length s ≤ 8192 → head_of s ≡ Opening.Is n at a c → at + n + 7 ≡ length s → c + 1 ≤ length s - 7
+    read : (n at a c : ℕ) (r : Option ℕ) → length s ≤ 8192 → head_of s ≡ Opening.Is n at a c → at + n + 7 ≡ length s → c + 1 ≤ length s - 7
         → trailer_of (part (length s - 7) (length s) s) ≡ r → sum_read a c r ≡ Shape.Is from to v → Shaped s from to v
-    read n at a c Number.No l h p q t x = let z : ◌≡◌ {A = ℕ} 0 1 = cc in absurd (omega arith)
-    read n at a c (Number.Is u) l h p q t x =
+    read n at a c None l h p q t x = let z : ◌≡◌ {A = ℕ} 0 1 = cc in absurd (omega arith)
+    read n at a c (Some u) l h p q t x =
         let i : a ≡ from = cc in
         let j : c ≡ to = cc in
         let k : u ≡ v = cc in

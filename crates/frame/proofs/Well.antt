@@ -1,9 +1,8 @@
 -- A message whose frame holds but for its sum and its type: what it is, and how it is read. Assumes nothing.
+use Rattle.std.specs.Prelude.{Some}
 use Rattle.std.proofs.Common.{◌≡◌, ℕ, ◌+◌, ◌-◌, ◌<◌, ◌≤◌, true, List, [], ◌∷◌, ◌++◌, length, take, drop, sym, refl, ap, ◌∙◌, append_assoc, append-nil, arith, length-append, take_all, take_at, drop_at, eq-eqb, le-leb}
-use mathlib.Core.Option.{some}
 use lib.Seq.{take-append_seam}
 use Rattle.digits.specs.Digits.{whole_of}
-use Rattle.digits.specs.declared.Number.{Number}
 use Rattle.digits.proofs.Width.{both}
 use Rattle.text.specs.Text.{fixed, width_to, width_of, decimal}
 use Rattle.text.proofs.Written.{whole_back, read_fixed, length_fixed, digits_fixed, digits_decimal, length_decimal, width_pos}
@@ -64,7 +63,7 @@ pub length_ten : (v : ℕ) → length (field_bytes (field 10 (fixed 3 v))) ≡ 7
 length_ten v = rw (ten_bytes, length-append, length_fixed)
 
 -- what the trailer says
-pub trailer_back : (v : ℕ) → v < 1000 → trailer_of (field_bytes (field 10 (fixed 3 v))) ≡ Number.Is v
+pub trailer_back : (v : ℕ) → v < 1000 → trailer_of (field_bytes (field 10 (fixed 3 v))) ≡ Some v
 unfolding trailer_of fixed
 trailer_back v h = rw ten_bytes (read_fixed 3 v (omega arith) (omega arith) (omega arith))
 
@@ -149,7 +148,7 @@ module _ (s c : List ℕ) (body : List Field) (v : ℕ) (x : Well s c body v) wh
   pub type_at : part from to s ≡ c
   type_at = third_stands.text
 
-  pub count_back : whole_of 5 (decimal n) ≡ Number.Is n
+  pub count_back : whole_of 5 (decimal n) ≡ Some n
   count_back = whole_back 5 n (omega arith) (omega arith) (omega (arith, whole_length, x.short))
 
   head_well : head_of s ≡ Opening.Is n at from to
@@ -163,7 +162,7 @@ module _ (s c : List ℕ) (body : List Field) (v : ℕ) (x : Well s c body v) wh
       let w : length s - 7 - (to + 1) ≡ length (bytes_of body) = omega (arith, whole_length, inner_length) in
       rw (w, third_stands.next) (take-append_seam (bytes_of body) (field_bytes ten))
 
-  pub chain_well : fields_of (part (to + 1) (length s - 7) s) ≡ some body
+  pub chain_well : fields_of (part (to + 1) (length s - 7) s) ≡ Some body
   chain_well = rw body_at (fields_back body fairs.1)
 
   front : s ≡ bytes_of (headed between) ++ field_bytes ten
@@ -194,7 +193,7 @@ module _ (s c : List ℕ) (body : List Field) (v : ℕ) (x : Well s c body v) wh
       )
 
   -- ---- by fields
-  pub fields_well : fields_of s ≡ some (field 8 begin ∷ nine ∷ field 35 c ∷ (body ++ (ten ∷ [])))
+  pub fields_well : fields_of s ≡ Some (field 8 begin ∷ nine ∷ field 35 c ∷ (body ++ (ten ∷ [])))
   fields_well =
       let fs = field 8 begin ∷ nine ∷ field 35 c ∷ (body ++ (ten ∷ [])) in
       let h : all_fair fs ≡ true = rw (eight_fair, nine_fair n, fairs.0) (fair_append body (ten ∷ []) fairs.1 (rw (ten_fair v))) in

@@ -1,9 +1,9 @@
 -- The frame place by place, as the code reads it: 11 first, then the sum, then the type. `by_places` in proofs/Framing.antt
 -- shows that they come to `frame_of`; of these definitions a public contract cites only `outline_of`, and Laws.antt says how it
 -- comes to `frame_of`. Assumes nothing.
+use Rattle.std.specs.Prelude.{Option, Some, None}
 use Rattle.std.specs.Prelude.{ℕ, ◌+◌, ◌-◌, ◌%◌, cond, ◌&&◌, List, [], ◌∷◌, length, take, ◌==◌, nat_le, slice_index}
 use Rattle.digits.specs.Digits.{digits_of, whole_of}
-use Rattle.digits.specs.declared.Number.{Number}
 use Rattle.chain.specs.Fields.{fields_of}
 use Rattle.frame.specs.Frames.{equal, total, typed}
 use Rattle.chain.specs.Places.{part, field_at, is_some}
@@ -25,9 +25,9 @@ abbrev pub third_of : ℕ → ℕ → Step → Opening
 third_of v at Step.No = Opening.No
 third_of v at (Step.Is t from to) = Opening.Is v at from to
 
-abbrev pub count_of : List ℕ → ℕ → Number → Opening
-count_of s at Number.No = Opening.No
-count_of s at (Number.Is v) = third_of v at (tagged 35 (field_at s at))
+abbrev pub count_of : List ℕ → ℕ → Option ℕ → Opening
+count_of s at None = Opening.No
+count_of s at (Some v) = third_of v at (tagged 35 (field_at s at))
 
 abbrev pub second_of : List ℕ → Step → Opening
 second_of s Step.No = Opening.No
@@ -38,13 +38,13 @@ unfoldable pub head_of : List ℕ → Opening
 head_of s = cond (equal (take 10 s) preamble) (second_of s (tagged 9 (field_at s 10))) Opening.No
 
 -- 10=, three digits and SOH
-unfoldable pub trailer_of : List ℕ → Number
+unfoldable pub trailer_of : List ℕ → Option ℕ
 trailer_of t =
-    cond (length t == 7 && (equal (take 3 t) (49 ∷ 48 ∷ 61 ∷ []) && slice_index t 6 == 1)) (digits_of 3 (part 3 6 t)) Number.No
+    cond (length t == 7 && (equal (take 3 t) (49 ∷ 48 ∷ 61 ∷ []) && slice_index t 6 == 1)) (digits_of 3 (part 3 6 t)) None
 
-abbrev pub sum_read : ℕ → ℕ → Number → Shape
-sum_read from to Number.No = Shape.No
-sum_read from to (Number.Is v) = Shape.Is from to v
+abbrev pub sum_read : ℕ → ℕ → Option ℕ → Shape
+sum_read from to None = Shape.No
+sum_read from to (Some v) = Shape.Is from to v
 
 -- 9 counts right, and the trailer is three digits
 abbrev pub parts_in : List ℕ → Opening → Shape

@@ -1,9 +1,7 @@
 -- The frame of a message and its type (document 01, "Frame"; answers 11, 12 and 13). Assumes nothing.
+use Rattle.std.specs.Prelude.{Option, Some, None}
 use Rattle.std.specs.Prelude.{ℕ, ◌+◌, ◌%◌, Bool, true, false, cond, ◌&&◌, ◌||◌, List, [], ◌∷◌, ◌++◌, length, ◌==◌, nat_le}
-use Rattle.std.proofs.Math.Option.{Option, none, some}
 use Rattle.digits.specs.Digits.{digits_of, whole_of}
-use Rattle.digits.specs.declared.Number.{Number}
-use Rattle.digits.specs.declared.Number.TheVariants.{Is, No}
 use Rattle.text.specs.Text.{fixed, decimal}
 use Rattle.chain.specs.Fields.{Field, field, fields_of}
 use Rattle.chain.specs.Bytes.{bytes_of}
@@ -22,9 +20,9 @@ total [] = 0
 total (b ∷ bs) = b + total bs
 
 -- a number was read, and it is n
-abbrev pub reads : Number → ℕ → Bool
-reads No n = false
-reads (Is v) n = v == n
+abbrev pub reads : Option ℕ → ℕ → Bool
+reads None n = false
+reads (Some v) n = v == n
 
 -- FIX.4.4
 abbrev pub begin : List ℕ
@@ -40,8 +38,8 @@ abbrev pub counts : Field → List Field → Bool
 counts f between = f.tag == 9 && reads (whole_of 5 f.text) (length (bytes_of between))
 
 -- tag 10 is three digits
-abbrev pub sum_of : Field → Number
-sum_of f = cond (f.tag == 10 && length f.text == 3) (digits_of 3 f.text) No
+abbrev pub sum_of : Field → Option ℕ
+sum_of f = cond (f.tag == 10 && length f.text == 3) (digits_of 3 f.text) None
 
 -- types: X, W, and 0, f, y, B
 abbrev pub is_type : ℕ → Bool
@@ -54,9 +52,9 @@ typed (k ∷ []) from = cond (is_type k) (Framed.Is k from) Framed.BadType
 typed (k ∷ l ∷ ks) from = Framed.BadType
 
 -- three digits: the sum of all bytes before it, wrapped at 256; another sum is 12, and no three digits are 11
-abbrev pub summed : Number → List Field → Framed → Framed
-summed No fs r = Framed.BadFrame
-summed (Is v) fs r = cond (v == total (bytes_of fs) % 256) r Framed.BadSum
+abbrev pub summed : Option ℕ → List Field → Framed → Framed
+summed None fs r = Framed.BadFrame
+summed (Some v) fs r = cond (v == total (bytes_of fs) % 256) r Framed.BadSum
 
 -- the last of c and the fields after it
 abbrev pub last_of : Field → List Field → Field
@@ -78,11 +76,11 @@ ordered a b c fs z =
 
 -- 8, 9 and 35 come first; the last is 10
 abbrev pub chained : Option (List Field) → Framed
-chained none = Framed.BadFrame
-chained (some []) = Framed.BadFrame
-chained (some (a ∷ [])) = Framed.BadFrame
-chained (some (a ∷ b ∷ [])) = Framed.BadFrame
-chained (some (a ∷ b ∷ c ∷ fs)) = ordered a b c (front_of fs) (last_of c fs)
+chained None = Framed.BadFrame
+chained (Some []) = Framed.BadFrame
+chained (Some (a ∷ [])) = Framed.BadFrame
+chained (Some (a ∷ b ∷ [])) = Framed.BadFrame
+chained (Some (a ∷ b ∷ c ∷ fs)) = ordered a b c (front_of fs) (last_of c fs)
 
 -- a message has 1 to 8,192 bytes and is a chain of fields
 unfoldable pub frame_of : List ℕ → Framed
@@ -91,11 +89,11 @@ frame_of s = cond (nat_le 1 (length s) && nat_le (length s) 8192) (chained (fiel
 -- ---- what a frame holds
 -- the fields after the first three, but the last
 abbrev pub inside : Option (List Field) → List Field
-inside none = []
-inside (some []) = []
-inside (some (a ∷ [])) = []
-inside (some (a ∷ b ∷ [])) = []
-inside (some (a ∷ b ∷ c ∷ fs)) = front_of fs
+inside None = []
+inside (Some []) = []
+inside (Some (a ∷ [])) = []
+inside (Some (a ∷ b ∷ [])) = []
+inside (Some (a ∷ b ∷ c ∷ fs)) = front_of fs
 
 -- the fields between 35 and 10
 unfoldable pub body_of : List ℕ → List Field

@@ -8,7 +8,6 @@ ghost use Rattle.frame.specs.Frames.{equal, total, is_type, typed, frame_of};
 ghost use Rattle.frame.specs.ByPlace.{tagged, preamble, head_of, trailer_of, parts_of, judged, outline_of};
 
 use chain::Step;
-use digits::Number;
 
 // The type and the place of the first field after 35 (the trailer starts 7 bytes before the end), or the refusals 11,
 // 12 and 13.
@@ -127,7 +126,7 @@ fn head(s: &[u8]) -> Opening
     else {
         return Opening::No;
     };
-    let Number::Is(count) = digits::whole(&s[a..e], 5) else {
+    let Some(count) = digits::whole(&s[a..e], 5) else {
         return Opening::No;
     };
     let at = e + 1;
@@ -143,17 +142,17 @@ fn head(s: &[u8]) -> Opening
 }
 
 // What 10 says, where these bytes are the trailer.
-fn trailer(t: &[u8]) -> Number
+fn trailer(t: &[u8]) -> Option<u64>
     ensures { result ≡ trailer_of t.now }
 {
     if t.len() != TRAILER_BYTES {
-        return Number::No;
+        return None;
     }
     if !same(&t[0..3], b"10=") {
-        return Number::No;
+        return None;
     }
     if t[6] != SOH {
-        return Number::No;
+        return None;
     }
     digits::digits(&t[3..6], 3)
 }
@@ -183,7 +182,7 @@ fn parts(s: &[u8]) -> Shape
     if end < next {
         return Shape::No;
     }
-    let Number::Is(sum) = trailer(&s[end..n]) else {
+    let Some(sum) = trailer(&s[end..n]) else {
         return Shape::No;
     };
     Shape::Is { from, to, sum }

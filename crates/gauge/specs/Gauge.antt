@@ -1,13 +1,12 @@
 -- What is measured of the reader of digits. Assumes nothing.
+use Rattle.std.specs.Prelude.{Option, Some, None}
 use Rattle.std.specs.Prelude.{ℕ, List}
 use Rattle.digits.specs.Digits.{digits_of}
-use Rattle.digits.specs.declared.Number.{Number}
-use Rattle.digits.specs.declared.Number.TheVariants.{Is, No}
 
 -- a number that was read, or 2 ^ 64 - 1
-abbrev pub told : Number → ℕ
-told (Is v) = v
-told No = 18446744073709551615
+abbrev pub told : Option ℕ → ℕ
+told (Some v) = v
+told None = 18446744073709551615
 
 -- 1 to 18 digits as one number
 unfoldable pub gauge_of : List ℕ → ℕ

@@ -7,7 +7,6 @@ ghost use Rattle.std.specs.Prelude.{◌≡◌};
 ghost use Rattle.digits.specs.Digits.{digits_of};
 ghost use Rattle.gauge.specs.Gauge.{gauge_of};
 
-use digits::Number;
 
 // The widest that the reader takes.
 const WIDTH: usize = 18;
@@ -18,47 +17,47 @@ const NONE: u64 = 18446744073709551615;
 pub fn selkavorn_gauge_digits(text: &[u8]) -> u64
     ensures { result ≡ gauge_of text.now }
 {
-    let Number::Is(v) = digits::digits(text, WIDTH) else {
+    let Some(v) = digits::digits(text, WIDTH) else {
         return NONE;
     };
     v
 }
 
 // 1 to width digits as `digits::digits` read them before document 02's K3: one a turn.
-fn by_one(text: &[u8], width: usize) -> Number
+fn by_one(text: &[u8], width: usize) -> Option<u64>
     ensures { result ≡ digits_of width text.now }
 {
     let n = text.len();
     if n == 0 {
-        return Number::No;
+        return None;
     }
     if width < n {
-        return Number::No;
+        return None;
     }
     if WIDTH < width {
-        return Number::No;
+        return None;
     }
     let mut v: u64 = 0;
     let mut i: usize = 0;
     while i < n {
         let b = text[i];
         if b < 48 {
-            return Number::No;
+            return None;
         }
         if 57 < b {
-            return Number::No;
+            return None;
         }
         v = v * 10 + digits::wide(b - 48);
         i += 1;
     }
-    Number::Is(v)
+    Some(v)
 }
 
 // The same number, read so: what the reader is held to.
 pub fn selkavorn_gauge_by_one(text: &[u8]) -> u64
     ensures { result ≡ gauge_of text.now }
 {
-    let Number::Is(v) = by_one(text, WIDTH) else {
+    let Some(v) = by_one(text, WIDTH) else {
         return NONE;
     };
     v

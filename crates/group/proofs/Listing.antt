@@ -1,8 +1,8 @@
 -- The walk along a group: what is known between two entries and in one, and what each step and each end of it says. Assumes nothing.
+use Rattle.std.specs.Prelude.{Option, Some, None}
 use mathlib.Core.Path.{◌≡◌, refl, sym, ap, ◌∙◌}
 use mathlib.Core.List.{List, [], ◌∷◌, ◌++◌}
 use mathlib.Core.Bool.{Bool, true, false, cond, not, ◌||◌, false≢true}
-use mathlib.Core.Option.{Option, none, some}
 use Prim.Native.Nat.{ℕ, ◌+◌, ◌*◌, ◌-◌, ◌≤◌, ◌<◌}
 use native.Mathlib.Omega.{arith}
 use borrow.Author.Tests.{eqb-true, eqb-false, lt-ltb, le-ltb, not-true}
@@ -98,26 +98,26 @@ kept_more run n next more k u l =
     record { wide = omega (arith, k.wide, length-sets run (n * 9) (update_words u)); room = omega arith; bid = b.0; offer = b.1 }
 
 -- ---- what is left of the run xs, where the group is good and where it is not
-pub group_reads : (t : Top) (o : Option (List Update)) (xs ys : List ℕ) (n : ℕ) → o ≡ some (updates_in ys n) → Spared xs ys
+pub group_reads : (t : Top) (o : Option (List Update)) (xs ys : List ℕ) (n : ℕ) → o ≡ Some (updates_in ys n) → Spared xs ys
     → Reads (answered t o) (record { verdict = t.verdict; number = t.number; heard = t.heard; id = t.id; last = t.last; loops = t.loops; count = n }) xs ys
 unfolding answered
 group_reads t o xs ys n q l =
     rw q (record { reading = rw (length_tab (λ (i : ℕ). update_at ys (i * 9)) n); entries = refl; run = l })
 
-pub none_reads : (t : Top) (o : Option (List Update)) (xs ys : List ℕ) (r : Reading) → o ≡ none → r ≡ (told (refused BadFields)).reading
+pub none_reads : (t : Top) (o : Option (List Update)) (xs ys : List ℕ) (r : Reading) → o ≡ None → r ≡ (told (refused BadFields)).reading
     → Spared xs ys → Reads (answered t o) r xs ys
 none_reads t o xs ys r q e l = rw q (reads_as (refused_reads BadFields xs ys r e l) (none_answered t))
 
 -- ---- where the walk has ended, and whether all is good
 pub record Ended (good : Bool) (o : Option (List Update)) (us : List Update) : Type 0 where
-  pub yes : good ≡ true → o ≡ some us
-  pub no : good ≡ false → o ≡ none
+  pub yes : good ≡ true → o ≡ Some us
+  pub no : good ≡ false → o ≡ None
 
 module _ (good : Bool) (o : Option (List Update)) (us : List Update) where
-  pub at_trailer : (more : ℕ) → good ≡ eqb more 0 → (more ≡ 0 → o ≡ some us) → ((more ≡ 0 → ⊥) → o ≡ none) → Ended good o us
+  pub at_trailer : (more : ℕ) → good ≡ eqb more 0 → (more ≡ 0 → o ≡ Some us) → ((more ≡ 0 → ⊥) → o ≡ None) → Ended good o us
   at_trailer more q f g = record { yes = λ h. f (eqb-true more 0 (sym q ∙ h)); no = λ h. g (eqb-false more 0 (sym q ∙ h)) }
 
-  pub at_refusal : good ≡ false → o ≡ none → Ended good o us
+  pub at_refusal : good ≡ false → o ≡ None → Ended good o us
   at_refusal q r = record { yes = λ h. absurd (false≢true (sym q ∙ h)); no = λ h. r }
 
 module _ (s : List ℕ) (start count depth : ℕ) (t : Top) where
@@ -160,14 +160,14 @@ module _ (s : List ℕ) (start count depth : ℕ) (t : Top) where
     said = updates_in run n
 
     -- the trailer
-    pub all_there : length s ≤ at → more ≡ 0 → whole ≡ some said
+    pub all_there : length s ≤ at → more ≡ 0 → whole ≡ Some said
     all_there l z = w.same ∙ ap (outside depth t more next said) (walked s at l) ∙ at_end_lem depth t more next said z
 
-    pub some_missing : length s ≤ at → (more ≡ 0 → ⊥) → whole ≡ none
+    pub some_missing : length s ≤ at → (more ≡ 0 → ⊥) → whole ≡ None
     some_missing l z = w.same ∙ ap (outside depth t more next said) (walked s at l) ∙ too_few depth t more next said z
 
     -- bytes that are no field
-    pub torn : at < length s → field_at s at ≡ Step.No → whole ≡ none
+    pub torn : at < length s → field_at s at ≡ Step.No → whole ≡ None
     torn l e =
         w.same ∙ ap (outside depth t more next said) (left_no s at l e)
         ∙ not_there depth t more next said broken [] (broken_apart t w.fair).0 broken_named
@@ -179,7 +179,7 @@ module _ (s : List ℕ) (start count depth : ℕ) (t : Top) where
       first : whole ≡ outside depth t more next said (f ∷ left s (to + 1))
       first = w.same ∙ ap (outside depth t more next said) (left_on s at l step)
 
-      pub early : (tag ≡ t.first → ⊥) → (k : ℕ) → k ≡ slot_of tag → k < 21 → whole ≡ none
+      pub early : (tag ≡ t.first → ⊥) → (k : ℕ) → k ≡ slot_of tag → k < 21 → whole ≡ None
       early q k e g = first ∙ not_there depth t more next said f (left s (to + 1)) q (named_is tag k e g)
 
       pub lists_skip : (tag ≡ t.first → ⊥) → (k : ℕ) → k ≡ slot_of tag → 21 ≤ k → Lists run n next more good (to + 1)
@@ -191,7 +191,7 @@ module _ (s : List ℕ) (start count depth : ℕ) (t : Top) where
             same = first ∙ passed_over_lem depth t more next said f (left s (to + 1)) q (named_not tag k e g);
           }
 
-      pub no_more : tag ≡ t.first → more ≡ 0 → whole ≡ none
+      pub no_more : tag ≡ t.first → more ≡ 0 → whole ≡ None
       no_more q z = first ∙ too_many depth t more next said f (left s (to + 1)) q z
 
       first_fits : tag ≡ t.first → fits named_tags ours [] f ≡ true
@@ -234,11 +234,11 @@ module _ (s : List ℕ) (start count depth : ℕ) (t : Top) where
           ap (λ (named : List ℕ). fits named ours w.passed f) (sym all_named)
           ∙ rw e (fits_test s m w.passed 21 t.low 20 w.holds (omega arith) (omega arith) f)
 
-      breach : (f.tag ≡ t.first → ⊥) → (k : ℕ) → k ≡ slot_of f.tag → strays k 21 t.low 20 (get_or m.to k 0) ≡ true → whole ≡ none
+      breach : (f.tag ≡ t.first → ⊥) → (k : ℕ) → k ≡ slot_of f.tag → strays k 21 t.low 20 (get_or m.to k 0) ≡ true → whole ≡ None
       breach q k e h = next_field ∙ breaks depth t more next so_far w.passed f fs q (test k e ∙ ap not h)
 
     -- bytes that are no field
-    pub torn_in : at < length s → field_at s at ≡ Step.No → whole ≡ none
+    pub torn_in : at < length s → field_at s at ≡ Step.No → whole ≡ None
     torn_in l e =
         let b = broken_apart t w.fair in
         breach broken [] (left_no s at l e) b.0 (slot_of 8) refl (broken_strays 21 t.low 20 (get_or m.to (slot_of 8) 0) b.1)
@@ -251,7 +251,7 @@ module _ (s : List ℕ) (start count depth : ℕ) (t : Top) where
       here = left_on s at l step
 
       module _ (q : tag ≡ t.first → ⊥) (k : ℕ) (e : k ≡ slot_of tag) where
-        pub strayed : strays k 21 t.low 20 (get_or m.to k 0) ≡ true → whole ≡ none
+        pub strayed : strays k 21 t.low 20 (get_or m.to k 0) ≡ true → whole ≡ None
         strayed h = breach g (left s (to + 1)) here q k e h
 
         pub enters_more : strays k 21 t.low 20 (get_or m.to k 0) ≡ false → k ≤ 21
@@ -281,10 +281,10 @@ module _ (s : List ℕ) (start count depth : ℕ) (t : Top) where
       read : entry_next depth t next (marked s m) ≡ entry_next depth t next (lookup w.passed)
       read = entry_same depth t next s m w.passed w.holds
 
-      pub ended_bad : entry_next depth t next (marked s m) ≡ none → whole ≡ none
+      pub ended_bad : entry_next depth t next (marked s m) ≡ None → whole ≡ None
       ended_bad h = w.same ∙ entry_bad depth t more next so_far w.passed (left s at) w.tidy stop (sym read ∙ h)
 
-      pub ended_passed : entry_next depth t next (marked s m) ≡ some none → Lists run n next more good at
+      pub ended_passed : entry_next depth t next (marked s m) ≡ Some None → Lists run n next more good at
       ended_passed h =
           record {
             fair = w.fair;
@@ -293,7 +293,7 @@ module _ (s : List ℕ) (start count depth : ℕ) (t : Top) where
             same = w.same ∙ entry_passed depth t more next so_far w.passed (left s at) w.tidy stop (sym read ∙ h);
           }
 
-      pub ended_said : (u : Update) → entry_next depth t next (marked s m) ≡ some (some u) → (next' : Next) → next' ≡ next_after next u.what
+      pub ended_said : (u : Update) → entry_next depth t next (marked s m) ≡ Some (Some u) → (next' : Next) → next' ≡ next_after next u.what
           → (ys : List ℕ) → ys ≡ sets run (n * 9) (update_words u) → Lists ys (n + 1) next' more good at
       ended_said u h next' q ys e =
           let more_said = one_more run n u (omega (arith, w.space, w.kept.wide)) in

@@ -1,7 +1,7 @@
 -- What a reader leaves: of the run what no entry may fill, by a refusal no entry; and what is read may be said in other words. Assumes nothing.
+use Rattle.std.specs.Prelude.{None}
 use mathlib.Core.Path.{◌≡◌, refl, ap, ◌∙◌}
 use mathlib.Core.List.{List}
-use mathlib.Core.Option.{none}
 use Prim.Native.Nat.{ℕ, ◌*◌, ◌<◌}
 use native.Mathlib.Omega.{arith}
 use lib.Seq.{sets, length-sets}
@@ -38,6 +38,6 @@ reads_as h q =
     record { reading = h.reading ∙ ap (λ (t : Told). t.reading) q; entries = h.entries ∙ ap (λ (t : Told). t.entries) q; run = h.run }
 
 -- a refusal is an answer without entries
-pub none_answered : (t : Top) → told (refused BadFields) ≡ answered t none
+pub none_answered : (t : Top) → told (refused BadFields) ≡ answered t None
 unfolding answered
 none_answered t = refl

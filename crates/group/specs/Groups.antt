@@ -1,6 +1,6 @@
 -- The group of an X or a W (document 01, "Fields"): its entries, and in W their positions. Assumes nothing.
+use Rattle.std.specs.Prelude.{Option, Some, None}
 use Rattle.std.specs.Prelude.{ℕ, List, [], ◌∷◌, Bool, true, ◌&&◌, eqb, length}
-use Rattle.std.proofs.Math.Option.{Option, none, some}
 use Rattle.book.specs.declared.Update.{Update}
 use Rattle.chain.specs.Fields.{Field}
 use Rattle.tags.specs.Tags.{named_tags, tidy, all_tidy, up_to, past, parts, lookup}
@@ -15,16 +15,16 @@ group_of first ours body =
     count_at (lookup body) >>= λ n.
     need (eqb (length (parts first (past 268 body))) n
     && (tidy named_tags [] (up_to first (past 268 body)) && all_tidy named_tags ours (parts first (past 268 body))))
-    (some (parts first (past 268 body)))
+    (Some (parts first (past 268 body)))
 
 -- All entries, in order.
 abbrev pub onto : Option Update → List Update → List Update
-onto none us = us
-onto (some u) us = u ∷ us
+onto None us = us
+onto (Some u) us = u ∷ us
 
 unfoldable pub each : (Values → Option (Option Update)) → List (List Field) → Option (List Update)
-each f [] = some []
-each f (e ∷ es) = f (lookup e) >>= λ u. each f es >>= λ us. some (onto u us)
+each f [] = Some []
+each f (e ∷ es) = f (lookup e) >>= λ u. each f es >>= λ us. Some (onto u us)
 
 -- In W the positions on each side run 1, 2, 3 in the order written.
 unfoldable pub running : Next → List Update → Bool

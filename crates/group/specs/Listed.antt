@@ -1,6 +1,6 @@
 -- The entries of an X or a W as the code reads them, once what stands before them is known. Assumes nothing.
+use Rattle.std.specs.Prelude.{Option, Some, None}
 use Rattle.std.specs.Prelude.{ℕ, List, [], Bool, ◌&&◌, ◌||◌, eqb, length}
-use Rattle.std.proofs.Math.Option.{Option, none, some}
 use Rattle.book.specs.declared.Update.{Update}
 use Rattle.message.specs.Message.{Told, refused, told}
 use Rattle.message.specs.declared.Refusal.TheVariants.{BadFields}
@@ -21,12 +21,12 @@ unfoldable pub grouped : ℕ → Top → ℕ → List Field → Option (List Upd
 grouped depth t n fs =
     need (eqb (length (parts t.first fs)) n
     && (tidy named_tags [] (up_to t.first fs) && all_tidy named_tags (between t.low 20) (parts t.first fs)))
-    (each (entry_in depth t) (parts t.first fs) >>= λ us. need (ordered t firsts us) (some us))
+    (each (entry_in depth t) (parts t.first fs) >>= λ us. need (ordered t firsts us) (Some us))
 
 -- What is answered for a group.
 unfoldable pub answered : Top → Option (List Update) → Told
-answered t none = told (refused BadFields)
-answered t (some us) =
+answered t None = told (refused BadFields)
+answered t (Some us) =
     record {
       reading = record {
         verdict = t.verdict;

@@ -1,20 +1,18 @@
 -- What an entry says lies in its ranges. Assumes nothing.
+use Rattle.std.specs.Prelude.{Option, Some, None}
+use Rattle.orderid.specs.OrderIds.{order_id}
 use mathlib.Core.Path.{◌≡◌, refl}
 use mathlib.Core.Bool.{Bool, true, false, cond, ◌&&◌, ◌||◌}
 use mathlib.Core.List.{List, [], ◌∷◌}
-use mathlib.Core.Option.{none, some}
 use Prim.Native.Nat.{ℕ, ◌+◌, ◌*◌}
 use native.Mathlib.Omega.{arith}
 use borrow.Author.Tests.{le-leb, lt-ltb}
 use lib.Dec.{leb, eqb}
 use lib.IntN.{nat_abs}
 use Rattle.digits.specs.Digits.{ranged_of}
-use Rattle.digits.specs.declared.Number.{Number}
-use Rattle.digits.specs.declared.Number.TheVariants.{Is, No}
 use Rattle.digits.proofs.Ranges.{ranged_in}
 use Rattle.digits.proofs.Width.{both}
 use Rattle.price.specs.Price.{top, price_of}
-use Rattle.price.specs.declared.Priced.{Priced}
 use Rattle.price.proofs.Parts.{price_small}
 use Rattle.moment.specs.Moments.{moment_of, date_of, time_of, span, moments, join}
 use Rattle.moment.proofs.Bounds.{moment_lt, date_lt, time_lt}
@@ -31,9 +29,9 @@ use Rattle.frame.specs.Frames.{equal}
 use Rattle.inrange.proofs.Okay.{okay, bind}
 
 -- ---- values
-in_range : (w lo hi : ℕ) (bs : List ℕ) (x : Number) → ranged_of w lo hi bs ≡ x → okay (within lo hi) (number x) ≡ true
-in_range w lo hi bs No e = refl
-in_range w lo hi bs (Is n) e =
+in_range : (w lo hi : ℕ) (bs : List ℕ) (x : Option ℕ) → ranged_of w lo hi bs ≡ x → okay (within lo hi) (number x) ≡ true
+in_range w lo hi bs None e = refl
+in_range w lo hi bs (Some n) e =
     let i = ranged_in w lo hi bs e in
     rw (le-leb lo n i.low, le-leb n hi i.high)
 
@@ -43,34 +41,34 @@ whole_okay t w lo hi v = in_range w lo hi (v t) (ranged_of w lo hi (v t)) refl
 pub heard_okay : (v : Values) → okay moment_fine (heard_at v) ≡ true
 heard_okay v = go (moment_of (v 52)) refl
   where
-    go : (x : Number) → moment_of (v 52) ≡ x → okay moment_fine (number x) ≡ true
-    go No e = refl
-    go (Is m) e = lt-ltb m 320829012000000 (omega (arith, moment_lt (v 52) e))
+    go : (x : Option ℕ) → moment_of (v 52) ≡ x → okay moment_fine (number x) ≡ true
+    go None e = refl
+    go (Some m) e = lt-ltb m 320829012000000 (omega (arith, moment_lt (v 52) e))
 
 pub instrument_okay : (v : Values) → okay id_fine (instrument_at v) ≡ true
 unfolding instrument_of
 instrument_okay v = go (ranged_of 18 1 most_id (v 48)) (equal (v 22) (56 ∷ []) && bvmf (v 207)) (in_range 18 1 most_id (v 48) (ranged_of 18 1 most_id (v 48)) refl)
   where
-    go : (x : Number) (z : Bool) → okay id_fine (number x) ≡ true → okay id_fine (number (identified x z)) ≡ true
-    go No z h = refl
-    go (Is n) true h = h
-    go (Is n) false h = refl
+    go : (x : Option ℕ) (z : Bool) → okay id_fine (number x) ≡ true → okay id_fine (number (identified x z)) ≡ true
+    go None z h = refl
+    go (Some n) true h = h
+    go (Some n) false h = refl
 
 price_okay : (v : Values) → okay price_fine (price_at v) ≡ true
 price_okay v = go (price_of (v 270)) refl
   where
-    go : (x : Priced) → price_of (v 270) ≡ x → okay price_fine (price x) ≡ true
-    go Priced.No e = refl
-    go (Priced.Is p) e = lt-ltb (nat_abs p) top (price_small (v 270) p e)
+    go : (x : Option ℤ) → price_of (v 270) ≡ x → okay price_fine (price x) ≡ true
+    go None e = refl
+    go (Some p) e = lt-ltb (nat_abs p) top (price_small (v 270) p e)
 
 moment_okay : (v : Values) → okay moment_fine (moment_at v) ≡ true
 unfolding moment_in
 moment_okay v = go (date_of (v 272)) (time_of (v 273)) refl refl
   where
-    go : (a b : Number) → date_of (v 272) ≡ a → time_of (v 273) ≡ b → okay moment_fine (number (join span a b)) ≡ true
-    go No b p q = refl
-    go (Is d) No p q = refl
-    go (Is d) (Is t) p q = lt-ltb (d * span + t) moments (omega (arith, date_lt (v 272) p, time_lt (v 273) q))
+    go : (a b : Option ℕ) → date_of (v 272) ≡ a → time_of (v 273) ≡ b → okay moment_fine (number (join span a b)) ≡ true
+    go None b p q = refl
+    go (Some d) None p q = refl
+    go (Some d) (Some t) p q = lt-ltb (d * span + t) moments (omega (arith, date_lt (v 272) p, time_lt (v 273) q))
 
 abbrev by_is : Bool → By → Bool
 by_is z b = cond z (id_sound b.by b.more) (orders_fine b.by b.more)
@@ -79,13 +77,13 @@ by_okay : (depth : ℕ) (v : Values) → okay (λ b. by_fine depth b.by b.more) 
 unfolding by_of
 by_okay depth v = go (eqb depth 0)
   where
-    order : (x : OrderId) → id_of (v 37) ≡ x → okay (by_is true) (by x) ≡ true
-    order OrderId.No e = refl
-    order (OrderId.Is a b) e = read_sound (v 37) e
+    order : (x : Option OrderId) → id_of (v 37) ≡ x → okay (by_is true) (by x) ≡ true
+    order None e = refl
+    order (Some (order_id a b)) e = read_sound (v 37) e
 
-    many : (x : Number) → okay (within 1 most_orders) (number x) ≡ true → okay (by_is false) (by (orders x)) ≡ true
-    many No h = refl
-    many (Is n) h = rw h
+    many : (x : Option ℕ) → okay (within 1 most_orders) (number x) ≡ true → okay (by_is false) (by (orders x)) ≡ true
+    many None h = refl
+    many (Some n) h = rw h
 
     go : (z : Bool) → okay (by_is z) (by (cond z (id_of (v 37)) (orders (ranged_of 5 1 most_orders (v 346))))) ≡ true
     go true = order (id_of (v 37)) refl
@@ -129,13 +127,13 @@ unfolding book_entry update_fine
 book_okay depth side action v hs ha =
     bind (within 1 most_orders) (okay (said_fine depth)) (place_at v) _ (whole_okay 290 5 1 most_orders v)
     (λ place hp. bind id_fine (okay (said_fine depth)) (instrument_at v) _ (instrument_okay v)
-    (λ id hi. bind (fits (leb action 1)) (okay (said_fine depth)) (cond (leb action 1) (values_of depth v) (some no_entry)) _ (either (leb action 1))
+    (λ id hi. bind (fits (leb action 1)) (okay (said_fine depth)) (cond (leb action 1) (values_of depth v) (Some no_entry)) _ (either (leb action 1))
     (λ entry he. rw (hi, or_true (is_for_all side), hs, ha, hp) he)))
   where
     fits : Bool → Entry → Bool
     fits z e = cond z (entry_fine depth e) (none_fine e)
 
-    either : (z : Bool) → okay (fits z) (cond z (values_of depth v) (some no_entry)) ≡ true
+    either : (z : Bool) → okay (fits z) (cond z (values_of depth v) (Some no_entry)) ≡ true
     either true = values_okay depth v
     either false = none_fine_lem
 
@@ -156,7 +154,7 @@ x_okay depth v =
     (λ sort hs. go action sort (both (leb 0 action) (leb action 4) ha).1 (leb sort 1) (eqb sort 2) refl))
   where
     go : (action sort : ℕ) → leb action 4 ≡ true → (z y : Bool) → leb sort 1 ≡ z
-        → okay (okay (said_fine depth)) (cond z (book_entry depth sort action v) (cond y (empty_book v) (some none))) ≡ true
+        → okay (okay (said_fine depth)) (cond z (book_entry depth sort action v) (cond y (empty_book v) (Some None))) ≡ true
     go action sort h true y e = book_okay depth sort action v e h
     go action sort h false true e = empty_okay depth v
     go action sort h false false e = refl
@@ -172,6 +170,6 @@ unfolding entry_in_w
 w_okay depth id v =
     bind (within 0 3) (okay (shown_fine depth)) (sort_at v) _ (sort_most v) (λ sort hs. go sort (leb sort 1) refl)
   where
-    go : (sort : ℕ) (z : Bool) → leb sort 1 ≡ z → okay (okay (shown_fine depth)) (cond z (shown_entry depth id sort v) (some none)) ≡ true
+    go : (sort : ℕ) (z : Bool) → leb sort 1 ≡ z → okay (okay (shown_fine depth)) (cond z (shown_entry depth id sort v) (Some None)) ≡ true
     go sort true e = shown_okay depth id sort v e
     go sort false e = refl

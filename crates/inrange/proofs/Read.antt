@@ -1,8 +1,8 @@
 -- Whatever the bytes, the message that they are lies in document 01's ranges. Assumes nothing.
+use Rattle.std.specs.Prelude.{Option, Some, None}
 use mathlib.Core.Path.{◌≡◌, refl}
 use mathlib.Core.Bool.{Bool, true, false, cond, ◌&&◌}
 use mathlib.Core.List.{List, [], ◌∷◌}
-use mathlib.Core.Option.{Option, none, some}
 use Prim.Native.Nat.{ℕ, suc, ◌≤◌}
 use native.Mathlib.Omega.{arith}
 use borrow.Author.Tests.{le-leb, leb-true, eqb-true}
@@ -36,8 +36,8 @@ each_fine q f h (e ∷ es) =
     (λ u hu. bind (all q) (all q) (each f es) _ (each_fine q f h es) (λ us hus. go u us hu hus))
   where
     go : (u : Option Update) (us : List Update) → okay q u ≡ true → all q us ≡ true → all q (onto u us) ≡ true
-    go none us a b = b
-    go (some u) us a b = rw (a, b)
+    go None us a b = b
+    go (Some u) us a b = rw (a, b)
 
 each_few : (f : Values → Option (Option Update)) (n : ℕ) (es : List (List Field)) → length es ≤ n → okay (λ us. leb (length us) n) (each f es) ≡ true
 unfolding each
@@ -48,12 +48,12 @@ each_few f n (e ∷ es) l =
     (λ us h. go u us (leb-true (length us) (length es) h)))
   where
     any : (o : Option (Option Update)) → okay (λ u. true) o ≡ true
-    any none = refl
-    any (some u) = refl
+    any None = refl
+    any (Some u) = refl
 
     go : (u : Option Update) (us : List Update) → length us ≤ length es → leb (length (onto u us)) n ≡ true
-    go none us k = le-leb (length us) n (omega arith)
-    go (some u) us k = le-leb (suc (length us)) n (omega arith)
+    go None us k = le-leb (length us) n (omega arith)
+    go (Some u) us k = le-leb (suc (length us)) n (omega arith)
 
 -- ---- the group has at most 64 entries
 group_few : (first : ℕ) (ours : List ℕ) (body : List Field) → okay (λ es. leb (length es) 64) (group_of first ours body) ≡ true
@@ -62,7 +62,7 @@ group_few first ours body =
     let ps = parts first (past 268 body) in
     let rest = tidy named_tags [] (up_to first (past 268 body)) && all_tidy named_tags ours ps in
     bind (within 0 64) (λ es. leb (length es) 64) (count_at (lookup body)) _ (whole_okay 268 2 0 64 (lookup body))
-    (λ n hn. needed (λ es. leb (length es) 64) (eqb (length ps) n && rest) (some ps)
+    (λ n hn. needed (λ es. leb (length es) 64) (eqb (length ps) n && rest) (Some ps)
     (λ h. let e = eqb-true (length ps) n (both (eqb (length ps) n) rest h).0 in
     rw e (both (leb 0 n) (leb n 64) hn).1))
 
@@ -105,7 +105,7 @@ w_fine depth body =
     (λ _. bind head_fine (message_fine depth) (head_of v) _ (head_fine_lem v)
     (λ h hh. bind (λ es. leb (length es) 64) (message_fine depth) (group_of 269 entry_w body) _ (group_few 269 entry_w body)
     (λ es he. bind (fits (shown_fine depth)) (message_fine depth) (each (entry_in_w depth h.id) es) _ (each_fits (shown_fine depth) (entry_in_w depth h.id) (w_okay depth h.id) es he)
-    (λ us hu. needed (message_fine depth) (running firsts us) (some (snapshot h us)) (λ _. rw hh hu)))))
+    (λ us hu. needed (message_fine depth) (running firsts us) (Some (snapshot h us)) (λ _. rw hh hu)))))
 
 -- ---- the others
 o_fine : (depth : ℕ) (body : List Field) → okay (message_fine depth) (other_of body) ≡ true
@@ -128,8 +128,8 @@ typed_fine depth kind body = go (eqb kind 88) (eqb kind 87)
 
 or_bad : (depth : ℕ) (o : Option Message) → okay (message_fine depth) o ≡ true → message_fine depth (or_bad_fields o) ≡ true
 unfolding or_bad_fields message_fine
-or_bad depth none h = refl
-or_bad depth (some m) h = h
+or_bad depth None h = refl
+or_bad depth (Some m) h = h
 
 pub read_in_range : ReadInRange
 unfolding message_in message_fine

@@ -1,15 +1,14 @@
 -- The fields between 35 and 10 as the code takes them: what stands before 268, then the rest. Assumes nothing.
+use Rattle.std.specs.Prelude.{Option, Some, None}
 use mathlib.Core.Path.{◌≡◌, refl, sym, ap, ◌∙◌}
 use mathlib.Core.List.{List, [], ◌∷◌}
 use mathlib.Core.Bool.{Bool, true, false, cond, ◌&&◌}
-use mathlib.Core.Option.{Option, none, some}
 use Prim.Native.Nat.{ℕ, ◌+◌, ◌≤◌, ◌<◌}
 use native.Mathlib.Omega.{arith}
 use borrow.Author.Tests.{eqb-true, eq-eqb, ne_eqb, leb-true}
 use lib.Dec.{eqb, leb}
 use lib.ListN.{length}
 use Rattle.digits.specs.Digits.{ranged_of, whole_of, digits_of}
-use Rattle.digits.specs.declared.Number.{Number}
 use Rattle.digits.proofs.Width.{both}
 use Rattle.book.specs.declared.Update.{Update}
 use Rattle.message.specs.Message.{Head, Message, numbered, snapshot, refused, told}
@@ -33,25 +32,25 @@ use Rattle.lead.specs.Leads.{bare_of, top_x, top_w, counted}
 use Rattle.position.specs.declared.Top.{Top}
 
 -- ---- from 268 on
-counted_by : (depth : ℕ) (t : Top) (n : Number) (gs : List Field)
+counted_by : (depth : ℕ) (t : Top) (n : Option ℕ) (gs : List Field)
     → (number n >>= λ k.
     need (eqb (length (parts t.first gs)) k && (tidy named_tags [] (up_to t.first gs) && all_tidy named_tags (between t.low 20) (parts t.first gs)))
-    (some (parts t.first gs)))
-    >>= (λ es. each (entry_in depth t) es >>= λ us. need (ordered t firsts us) (some us))
+    (Some (parts t.first gs)))
+    >>= (λ es. each (entry_in depth t) es >>= λ us. need (ordered t firsts us) (Some us))
     ≡ number n >>= λ k. grouped depth t k gs
 unfolding grouped
-counted_by depth t Number.No gs = refl
-counted_by depth t (Number.Is k) gs =
+counted_by depth t None gs = refl
+counted_by depth t (Some k) gs =
     go (eqb (length (parts t.first gs)) k && (tidy named_tags [] (up_to t.first gs) && all_tidy named_tags (between t.low 20) (parts t.first gs)))
   where
     go : (z : Bool)
-        → need z (some (parts t.first gs)) >>= (λ es. each (entry_in depth t) es >>= λ us. need (ordered t firsts us) (some us))
-        ≡ need z (each (entry_in depth t) (parts t.first gs) >>= λ us. need (ordered t firsts us) (some us))
+        → need z (Some (parts t.first gs)) >>= (λ es. each (entry_in depth t) es >>= λ us. need (ordered t firsts us) (Some us))
+        ≡ need z (each (entry_in depth t) (parts t.first gs) >>= λ us. need (ordered t firsts us) (Some us))
     go true = refl
     go false = refl
 
 -- a group found by its 268 is the group from there on
-no_count : number (ranged_of 2 0 64 []) ≡ none
+no_count : number (ranged_of 2 0 64 []) ≡ None
 unfolding ranged_of whole_of digits_of
 no_count = refl
 
@@ -91,7 +90,7 @@ onward_headed (f ∷ fs) = go (eqb f.tag 268) refl (onward_headed fs)
 
 module _ (depth : ℕ) (t : Top) where
   unfoldable pub listing : Option (List (List Field)) → Option (List Update)
-  listing o = o >>= λ es. each (entry_in depth t) es >>= λ us. need (ordered t firsts us) (some us)
+  listing o = o >>= λ es. each (entry_in depth t) es >>= λ us. need (ordered t firsts us) (Some us)
 
   group_at : (gs : List Field) → headed gs ≡ true → listing (group_of t.first (between t.low 20) gs) ≡ counted depth t gs
   unfolding listing headed group_of counted lookup past
@@ -107,30 +106,30 @@ module _ (depth : ℕ) (t : Top) where
 
 -- the group by the field at a place
 module _ (s : List ℕ) (start depth : ℕ) (t : Top) where
-  pub no_group : length s ≤ start → counted depth t (left s start) ≡ none
+  pub no_group : length s ≤ start → counted depth t (left s start) ≡ None
   unfolding counted
   no_group l = rw (walked s start l)
 
   -- bytes that are no field: no bytes are no number
-  pub torn_count : start < length s → field_at s start ≡ Step.No → counted depth t (left s start) ≡ none
+  pub torn_count : start < length s → field_at s start ≡ Step.No → counted depth t (left s start) ≡ None
   unfolding counted
   torn_count l e = rw (left_no s start l e, no_count)
 
   module _ (tag from to : ℕ) (l : start < length s) (step : field_at s start ≡ Step.Is tag from to) where
-    pub bad_count : ranged_of 2 0 64 (part from to s) ≡ Number.No → counted depth t (left s start) ≡ none
+    pub bad_count : ranged_of 2 0 64 (part from to s) ≡ None → counted depth t (left s start) ≡ None
     unfolding counted
     bad_count e = rw (left_on s start l step, e)
 
-    pub good_count : (n : ℕ) → ranged_of 2 0 64 (part from to s) ≡ Number.Is n → counted depth t (left s start) ≡ grouped depth t n (left s (to + 1))
+    pub good_count : (n : ℕ) → ranged_of 2 0 64 (part from to s) ≡ Some n → counted depth t (left s start) ≡ grouped depth t n (left s (to + 1))
     unfolding counted
     good_count n e = rw (left_on s start l step, e)
 
 -- ---- refusals
-pub refused_by_lem : (o : Option Message) → o ≡ none → told (refused BadFields) ≡ told (or_bad_fields o)
+pub refused_by_lem : (o : Option Message) → o ≡ None → told (refused BadFields) ≡ told (or_bad_fields o)
 unfolding or_bad_fields
 refused_by_lem o q = rw q
 
-not_read : (z : Bool) {A : Type 0} (o : Option A) → o ≡ none → need z o ≡ none
+not_read : (z : Bool) {A : Type 0} (o : Option A) → o ≡ None → need z o ≡ None
 not_read true o q = q
 not_read false o q = refl
 
@@ -141,27 +140,27 @@ x_top n at = record { verdict = Numbered; first = 279; low = 8; number = n; hear
 pub record TopX (v : Values) (t : Top) : Type 0 where
   pub n : ℕ
   pub at : ℕ
-  pub seq : seq_at v ≡ some n
-  pub heard : heard_at v ≡ some at
+  pub seq : seq_at v ≡ Some n
+  pub heard : heard_at v ≡ Some at
   pub same : t ≡ record { verdict = Numbered; first = 279; low = 8; number = n; heard = at; id = 0; last = 0; loops = 0 }
 
-pub is_top_x : (v : Values) {t : Top} → top_x v ≡ some t → TopX v t
+pub is_top_x : (v : Values) {t : Top} → top_x v ≡ Some t → TopX v t
 unfolding top_x
 is_top_x v {t} = go (seq_at v) (heard_at v) refl refl
   where
-    go : (a b : Option ℕ) → seq_at v ≡ a → heard_at v ≡ b → a >>= (λ n. b >>= λ at. some (x_top n at)) ≡ some t → TopX v t
-    go none b p q e = let z : ◌≡◌ {A = ℕ} 0 1 = cc in absurd (omega arith)
-    go (some n) none p q e = let z : ◌≡◌ {A = ℕ} 0 1 = cc in absurd (omega arith)
-    go (some n) (some at) p q e = record { n = n; at = at; seq = p; heard = q; same = cc }
+    go : (a b : Option ℕ) → seq_at v ≡ a → heard_at v ≡ b → a >>= (λ n. b >>= λ at. Some (x_top n at)) ≡ Some t → TopX v t
+    go None b p q e = let z : ◌≡◌ {A = ℕ} 0 1 = cc in absurd (omega arith)
+    go (Some n) None p q e = let z : ◌≡◌ {A = ℕ} 0 1 = cc in absurd (omega arith)
+    go (Some n) (Some at) p q e = record { n = n; at = at; seq = p; heard = q; same = cc }
 
-x_none : {A : Type 0} (v : Values) (k : ℕ → ℕ → Option A) → top_x v ≡ none → seq_at v >>= (λ n. heard_at v >>= λ at. k n at) ≡ none
+x_none : {A : Type 0} (v : Values) (k : ℕ → ℕ → Option A) → top_x v ≡ None → seq_at v >>= (λ n. heard_at v >>= λ at. k n at) ≡ None
 unfolding top_x
 x_none {A} v k = go (seq_at v) (heard_at v)
   where
-    go : (a b : Option ℕ) → a >>= (λ n. b >>= λ at. some (x_top n at)) ≡ none → a >>= (λ n. b >>= λ at. k n at) ≡ none
-    go none b e = refl
-    go (some n) none e = refl
-    go (some n) (some at) e = let z : ◌≡◌ {A = ℕ} 0 1 = cc in absurd (omega arith)
+    go : (a b : Option ℕ) → a >>= (λ n. b >>= λ at. Some (x_top n at)) ≡ None → a >>= (λ n. b >>= λ at. k n at) ≡ None
+    go None b e = refl
+    go (Some n) None e = refl
+    go (Some n) (Some at) e = let z : ◌≡◌ {A = ℕ} 0 1 = cc in absurd (omega arith)
 
 pub fair_x : (v : Values) (t : Top) → TopX v t → Fair t
 unfolding has between
@@ -177,26 +176,26 @@ module _ (depth : ℕ) (fs : List Field) where
   abbrev v : Values
   v = lookup (up_to 268 fs)
 
-  pub x_untidy : tidy (below 21) (between 4 6) (up_to 268 fs) ≡ false → changes_of depth fs ≡ none
+  pub x_untidy : tidy (below 21) (between 4 6) (up_to 268 fs) ≡ false → changes_of depth fs ≡ None
   unfolding changes_of below between
   x_untidy h = rw h
 
-  pub x_no_top : top_x v ≡ none → changes_of depth fs ≡ none
+  pub x_no_top : top_x v ≡ None → changes_of depth fs ≡ None
   unfolding changes_of
   x_no_top h =
       not_read (tidy named_tags head_x (up_to 268 fs))
-      (seq_at v >>= λ n. heard_at v >>= λ at. group_of 279 entry_x fs >>= λ es. each (entry_in_x depth) es >>= λ us. some (numbered n at us))
-      (x_none v (λ n at. group_of 279 entry_x fs >>= λ es. each (entry_in_x depth) es >>= λ us. some (numbered n at us)) h)
+      (seq_at v >>= λ n. heard_at v >>= λ at. group_of 279 entry_x fs >>= λ es. each (entry_in_x depth) es >>= λ us. Some (numbered n at us))
+      (x_none v (λ n at. group_of 279 entry_x fs >>= λ es. each (entry_in_x depth) es >>= λ us. Some (numbered n at us)) h)
 
   x_answer : (n at : ℕ) (o : Option (List (List Field)))
-      → told (or_bad_fields (o >>= λ es. each (entry_in_x depth) es >>= λ us. some (numbered n at us))) ≡ answered (x_top n at) (listing depth (x_top n at) o)
+      → told (or_bad_fields (o >>= λ es. each (entry_in_x depth) es >>= λ us. Some (numbered n at us))) ≡ answered (x_top n at) (listing depth (x_top n at) o)
   unfolding or_bad_fields answered listing entry_in ordered told
-  x_answer n at none = refl
-  x_answer n at (some es) = go (each (entry_in_x depth) es)
+  x_answer n at None = refl
+  x_answer n at (Some es) = go (each (entry_in_x depth) es)
     where
-      go : (r : Option (List Update)) → told (or_bad_fields (r >>= λ us. some (numbered n at us))) ≡ answered (x_top n at) (r >>= λ us. some us)
-      go none = refl
-      go (some us) = refl
+      go : (r : Option (List Update)) → told (or_bad_fields (r >>= λ us. Some (numbered n at us))) ≡ answered (x_top n at) (r >>= λ us. Some us)
+      go None = refl
+      go (Some us) = refl
 
   x_told : tidy (below 21) (between 4 6) (up_to 268 fs) ≡ true → (t : Top) → TopX v t
       → told (or_bad_fields (changes_of depth fs)) ≡ answered t (counted depth t (onward 268 fs))
@@ -225,7 +224,7 @@ w_top h =
 
 pub record TopW (v : Values) (t : Top) : Type 0 where
   pub head : Head
-  pub read : head_of v ≡ some head
+  pub read : head_of v ≡ Some head
   pub same : t ≡ record {
     verdict = Snapshot;
     first = 269;
@@ -239,31 +238,31 @@ pub record TopW (v : Values) (t : Top) : Type 0 where
 
 -- the two ways to read it
 heads : (v : Values) (a b c d e : Option ℕ) → seq_at v ≡ a → heard_at v ≡ b → instrument_at v ≡ c → last_at v ≡ d → loops_at v ≡ e
-    → top_w v ≡ head_of v >>= λ h. some (w_top h)
+    → top_w v ≡ head_of v >>= λ h. Some (w_top h)
 unfolding top_w top_x head_of
-heads v none b c d e p q r s u = rw p
-heads v (some n) none c d e p q r s u = rw (p, q)
-heads v (some n) (some at) none d e p q r s u = rw (p, q, r)
-heads v (some n) (some at) (some id) none e p q r s u = rw (p, q, r, s)
-heads v (some n) (some at) (some id) (some last) none p q r s u = rw (p, q, r, s, u)
-heads v (some n) (some at) (some id) (some last) (some loops) p q r s u = rw (p, q, r, s, u)
+heads v None b c d e p q r s u = rw p
+heads v (Some n) None c d e p q r s u = rw (p, q)
+heads v (Some n) (Some at) None d e p q r s u = rw (p, q, r)
+heads v (Some n) (Some at) (Some id) None e p q r s u = rw (p, q, r, s)
+heads v (Some n) (Some at) (Some id) (Some last) None p q r s u = rw (p, q, r, s, u)
+heads v (Some n) (Some at) (Some id) (Some last) (Some loops) p q r s u = rw (p, q, r, s, u)
 
-top_head : (v : Values) → top_w v ≡ head_of v >>= λ h. some (w_top h)
+top_head : (v : Values) → top_w v ≡ head_of v >>= λ h. Some (w_top h)
 top_head v = heads v (seq_at v) (heard_at v) (instrument_at v) (last_at v) (loops_at v) refl refl refl refl refl
 
-pub is_top_w : (v : Values) {t : Top} → top_w v ≡ some t → TopW v t
+pub is_top_w : (v : Values) {t : Top} → top_w v ≡ Some t → TopW v t
 is_top_w v {t} e = go (head_of v) refl (sym (top_head v) ∙ e)
   where
-    go : (o : Option Head) → head_of v ≡ o → o >>= (λ h. some (w_top h)) ≡ some t → TopW v t
-    go none q h = let z : ◌≡◌ {A = ℕ} 0 1 = cc in absurd (omega arith)
-    go (some h) q k = record { head = h; read = q; same = cc }
+    go : (o : Option Head) → head_of v ≡ o → o >>= (λ h. Some (w_top h)) ≡ Some t → TopW v t
+    go None q h = let z : ◌≡◌ {A = ℕ} 0 1 = cc in absurd (omega arith)
+    go (Some h) q k = record { head = h; read = q; same = cc }
 
-no_head : (v : Values) → top_w v ≡ none → head_of v ≡ none
+no_head : (v : Values) → top_w v ≡ None → head_of v ≡ None
 no_head v e = go (head_of v) (sym (top_head v) ∙ e)
   where
-    go : (o : Option Head) → o >>= (λ h. some (w_top h)) ≡ none → o ≡ none
-    go none h = refl
-    go (some h) k = let z : ◌≡◌ {A = ℕ} 0 1 = cc in absurd (omega arith)
+    go : (o : Option Head) → o >>= (λ h. Some (w_top h)) ≡ None → o ≡ None
+    go None h = refl
+    go (Some h) k = let z : ◌≡◌ {A = ℕ} 0 1 = cc in absurd (omega arith)
 
 pub fair_w : (v : Values) (t : Top) → TopW v t → Fair t
 unfolding has between
@@ -284,28 +283,28 @@ module _ (depth : ℕ) (fs : List Field) where
   abbrev w : Values
   w = lookup (up_to 268 fs)
 
-  pub w_untidy : tidy (below 21) (between 4 11) (up_to 268 fs) ≡ false → snapshot_of depth fs ≡ none
+  pub w_untidy : tidy (below 21) (between 4 11) (up_to 268 fs) ≡ false → snapshot_of depth fs ≡ None
   unfolding snapshot_of below between
   w_untidy h = rw h
 
-  pub w_no_top : top_w w ≡ none → snapshot_of depth fs ≡ none
+  pub w_no_top : top_w w ≡ None → snapshot_of depth fs ≡ None
   unfolding snapshot_of
-  w_no_top h = rw (no_head w h) (not_read (tidy named_tags head_w (up_to 268 fs)) none refl)
+  w_no_top h = rw (no_head w h) (not_read (tidy named_tags head_w (up_to 268 fs)) None refl)
 
   w_answer : (h : Head) (o : Option (List (List Field)))
-      → told (or_bad_fields (o >>= λ es. each (entry_in_w depth h.id) es >>= λ us. need (running firsts us) (some (snapshot h us))))
+      → told (or_bad_fields (o >>= λ es. each (entry_in_w depth h.id) es >>= λ us. need (running firsts us) (Some (snapshot h us))))
       ≡ answered (w_top h) (listing depth (w_top h) o)
   unfolding or_bad_fields answered listing entry_in ordered told
-  w_answer h none = refl
-  w_answer h (some es) = go (each (entry_in_w depth h.id) es)
+  w_answer h None = refl
+  w_answer h (Some es) = go (each (entry_in_w depth h.id) es)
     where
-      pick : (z : Bool) (us : List Update) → told (or_bad_fields (need z (some (snapshot h us)))) ≡ answered (w_top h) (need z (some us))
+      pick : (z : Bool) (us : List Update) → told (or_bad_fields (need z (Some (snapshot h us)))) ≡ answered (w_top h) (need z (Some us))
       pick true us = refl
       pick false us = refl
 
-      go : (r : Option (List Update)) → told (or_bad_fields (r >>= λ us. need (running firsts us) (some (snapshot h us)))) ≡ answered (w_top h) (r >>= λ us. need (running firsts us) (some us))
-      go none = refl
-      go (some us) = pick (running firsts us) us
+      go : (r : Option (List Update)) → told (or_bad_fields (r >>= λ us. need (running firsts us) (Some (snapshot h us)))) ≡ answered (w_top h) (r >>= λ us. need (running firsts us) (Some us))
+      go None = refl
+      go (Some us) = pick (running firsts us) us
 
   w_told : tidy (below 21) (between 4 11) (up_to 268 fs) ≡ true → (t : Top) → TopW w t
       → told (or_bad_fields (snapshot_of depth fs)) ≡ answered t (counted depth t (onward 268 fs))
@@ -355,23 +354,23 @@ module _ (fs : List Field) where
   abbrev y : Values
   y = lookup (up_to 268 fs)
 
-  pub o_untidy : tidy (below 6) (between 4 6) (up_to 268 fs) ≡ false → other_of fs ≡ none
+  pub o_untidy : tidy (below 6) (between 4 6) (up_to 268 fs) ≡ false → other_of fs ≡ None
   unfolding other_of below between
   o_untidy h = rw h
 
-  pub o_untidy_rest : all_tagged fs ≡ true → tidy (below 6) (between 0 0) (up_to 0 (onward 268 fs)) ≡ false → other_of fs ≡ none
+  pub o_untidy_rest : all_tagged fs ≡ true → tidy (below 6) (between 0 0) (up_to 0 (onward 268 fs)) ≡ false → other_of fs ≡ None
   unfolding other_of
   o_untidy_rest f h = rw (sym (rest_tidy fs f) ∙ h) (go (tidy other_tags head_x (up_to 268 fs)))
     where
-      go : (z : Bool) → need (z && false) (seq_at y >>= λ n. heard_at y >>= λ at. some (numbered n at [])) ≡ none
+      go : (z : Bool) → need (z && false) (seq_at y >>= λ n. heard_at y >>= λ at. Some (numbered n at [])) ≡ None
       go true = refl
       go false = refl
 
-  pub o_no_top : top_x y ≡ none → other_of fs ≡ none
+  pub o_no_top : top_x y ≡ None → other_of fs ≡ None
   unfolding other_of
   o_no_top h =
-      not_read (tidy other_tags head_x (up_to 268 fs) && tidy other_tags [] (past 268 fs)) (seq_at y >>= λ n. heard_at y >>= λ at. some (numbered n at []))
-      (x_none y (λ n at. some (numbered n at [])) h)
+      not_read (tidy other_tags head_x (up_to 268 fs) && tidy other_tags [] (past 268 fs)) (seq_at y >>= λ n. heard_at y >>= λ at. Some (numbered n at []))
+      (x_none y (λ n at. Some (numbered n at [])) h)
 
   pub o_is : all_tagged fs ≡ true → tidy (below 6) (between 4 6) (up_to 268 fs) ≡ true → tidy (below 6) (between 0 0) (up_to 0 (onward 268 fs)) ≡ true
       → (t : Top) → TopX y t → bare_of Numbered t.number t.heard ≡ told (or_bad_fields (other_of fs))

@@ -1,7 +1,7 @@
 -- What leads to the entries: nothing does at the end, and what is led to may be said in other words. Assumes nothing.
+use Rattle.std.specs.Prelude.{Option, Some, None}
 use mathlib.Core.Path.{◌≡◌, refl, ap, ◌∙◌}
 use mathlib.Core.List.{List, []}
-use mathlib.Core.Option.{Option, none, some}
 use Prim.Native.Nat.{ℕ}
 use native.Mathlib.Omega.{arith}
 use lib.ListN.{length}
@@ -29,11 +29,11 @@ top_fair : (v : Verdict) (n heard : ℕ) → Fair (top_of v n heard)
 unfolding has between
 top_fair v n heard = (refl, refl)
 
-none_grouped : (depth : ℕ) (t : Top) (s : List ℕ) → grouped depth t 0 (left s (length s)) ≡ some []
+none_grouped : (depth : ℕ) (t : Top) (s : List ℕ) → grouped depth t 0 (left s (length s)) ≡ Some []
 none_grouped depth t s =
     ap (grouped depth t 0) (walked s (length s) (omega arith)) ∙ group_start depth t 0 [] ∙ at_end_lem depth t 0 firsts [] refl
 
-none_told : (v : Verdict) (n heard : ℕ) → answered (top_of v n heard) (some []) ≡ bare_of v n heard
+none_told : (v : Verdict) (n heard : ℕ) → answered (top_of v n heard) (Some []) ≡ bare_of v n heard
 unfolding answered bare_of
 none_told v n heard = refl
 
@@ -53,15 +53,15 @@ pub leads_as : {s : List ℕ} {l d e : Lead} {f : ℕ → Told} → Leads s l d 
 leads_as h p g q = record { exact = h.exact ∙ p; fair = h.fair; few = h.few; says = λ depth. h.says depth ∙ q depth }
 
 -- what stands before a group was read, or not
-pub no_top : (o : Option Top) → topped o ≡ Topped.No → o ≡ none
+pub no_top : (o : Option Top) → topped o ≡ Topped.No → o ≡ None
 unfolding topped
-no_top none h = refl
-no_top (some t) h = let z : ◌≡◌ {A = ℕ} 0 1 = cc in absurd (omega arith)
+no_top None h = refl
+no_top (Some t) h = let z : ◌≡◌ {A = ℕ} 0 1 = cc in absurd (omega arith)
 
-pub a_top : (o : Option Top) {t : Top} → topped o ≡ Topped.Is t → o ≡ some t
+pub a_top : (o : Option Top) {t : Top} → topped o ≡ Topped.Is t → o ≡ Some t
 unfolding topped
-a_top none h = let z : ◌≡◌ {A = ℕ} 0 1 = cc in absurd (omega arith)
-a_top (some t) h = cc
+a_top None h = let z : ◌≡◌ {A = ℕ} 0 1 = cc in absurd (omega arith)
+a_top (Some t) h = cc
 
 -- a breach leads to no entry
 pub bare_refused : (why : Refusal) → bare_of (Refused why) 0 0 ≡ told (refused why)

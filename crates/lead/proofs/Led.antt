@@ -1,13 +1,12 @@
 -- Each way to what leads to the entries, to the last number. Assumes nothing.
+use Rattle.std.specs.Prelude.{Option, Some, None}
 use mathlib.Core.Path.{◌≡◌, sym, ap, ◌∙◌}
 use mathlib.Core.Bool.{Bool, true, false, cond}
 use mathlib.Core.List.{List}
-use mathlib.Core.Option.{Option, none, some}
 use Prim.Native.Nat.{ℕ, ◌+◌, ◌≤◌, ◌<◌}
 use borrow.Author.Tests.{le-leb, lt-leb, eq-eqb, ne_eqb}
 use lib.ListN.{length}
 use Rattle.digits.specs.Digits.{ranged_of}
-use Rattle.digits.specs.declared.Number.{Number}
 use Rattle.message.specs.declared.Verdict.TheVariants.{Numbered}
 use Rattle.chain.specs.Places.{part, field_at, left}
 use Rattle.chain.specs.declared.Step.{Step}
@@ -31,11 +30,11 @@ module _ (s : List ℕ) (start : ℕ) (t : Top) where
     torn_led e = rw (lt-leb (length s) start l, e)
 
     module _ {tag from to : ℕ} (e : field_at s start ≡ Step.Is tag from to) where
-      pub bad_led : ranged_of 2 0 64 (part from to s) ≡ Number.No → breach_lead s ≡ counted_lead s start t
+      pub bad_led : ranged_of 2 0 64 (part from to s) ≡ None → breach_lead s ≡ counted_lead s start t
       unfolding counted_lead
       bad_led q = rw (lt-leb (length s) start l, e, q)
 
-      pub good_led : {n : ℕ} → ranged_of 2 0 64 (part from to s) ≡ Number.Is n → record { top = t; at = to + 1; count = n } ≡ counted_lead s start t
+      pub good_led : {n : ℕ} → ranged_of 2 0 64 (part from to s) ≡ Some n → record { top = t; at = to + 1; count = n } ≡ counted_lead s start t
       unfolding counted_lead
       good_led q = rw (lt-leb (length s) start l, e, q)
 
@@ -48,10 +47,10 @@ module _ (s : List ℕ) (top : Values → Option Top) {p w : Place} (q : p ≡ w
   pub untidy_led : p.ok ≡ false → breach_lead s ≡ walked_lead s top w
   untidy_led h = walked false h
 
-  pub topless_led : p.ok ≡ true → top (marked s p.marks) ≡ none → breach_lead s ≡ walked_lead s top w
+  pub topless_led : p.ok ≡ true → top (marked s p.marks) ≡ None → breach_lead s ≡ walked_lead s top w
   topless_led h e = ap (topped_lead s p.at) (sym e) ∙ walked true h
 
-  pub topped_led : {t : Top} → p.ok ≡ true → top (marked s p.marks) ≡ some t → counted_lead s p.at t ≡ walked_lead s top w
+  pub topped_led : {t : Top} → p.ok ≡ true → top (marked s p.marks) ≡ Some t → counted_lead s p.at t ≡ walked_lead s top w
   topped_led h e = ap (topped_lead s p.at) (sym e) ∙ walked true h
 
 -- ---- the other types: p was walked as w says, and the rest as r
@@ -71,10 +70,10 @@ module _ (s : List ℕ) {p w : Place} (q : p ≡ w) where
     pub untidy_rest : r.ok ≡ false → breach_lead s ≡ alone_by s w
     untidy_rest k = rested false k
 
-    pub topless_alone : r.ok ≡ true → top_x (marked s p.marks) ≡ none → breach_lead s ≡ alone_by s w
+    pub topless_alone : r.ok ≡ true → top_x (marked s p.marks) ≡ None → breach_lead s ≡ alone_by s w
     topless_alone k n = ap (numbered_lead s) (sym n) ∙ rested true k
 
-    pub topped_alone : {t : Top} → r.ok ≡ true → top_x (marked s p.marks) ≡ some t → alone_lead s Numbered t.number t.heard ≡ alone_by s w
+    pub topped_alone : {t : Top} → r.ok ≡ true → top_x (marked s p.marks) ≡ Some t → alone_lead s Numbered t.number t.heard ≡ alone_by s w
     topped_alone k n = ap (numbered_lead s) (sym n) ∙ rested true k
 
 -- ---- by the type

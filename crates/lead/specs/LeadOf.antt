@@ -1,8 +1,7 @@
 -- What leads to the entries, to the last number. Assumes nothing.
+use Rattle.std.specs.Prelude.{Option, Some, None}
 use Rattle.std.specs.Prelude.{ℕ, ◌+◌, cond, List, leb, eqb, length}
-use Rattle.std.proofs.Math.Option.{Option, none, some}
 use Rattle.digits.specs.Digits.{ranged_of}
-use Rattle.digits.specs.declared.Number.{Number}
 use Rattle.message.specs.declared.Refusal.TheVariants.{BadFields}
 use Rattle.message.specs.declared.Verdict.{Verdict}
 use Rattle.message.specs.declared.Verdict.TheVariants.{Numbered, Refused}
@@ -30,9 +29,9 @@ abbrev pub breach_lead : List ℕ → Lead
 breach_lead s = alone_lead s (Refused BadFields) 0 0
 
 -- The group from 268 on: the field that stands there, and the number that it says.
-abbrev pub count_read : List ℕ → Top → ℕ → Number → Lead
-count_read s t at Number.No = breach_lead s
-count_read s t at (Number.Is n) = record { top = t; at = at; count = n }
+abbrev pub count_read : List ℕ → Top → ℕ → Option ℕ → Lead
+count_read s t at None = breach_lead s
+count_read s t at (Some n) = record { top = t; at = at; count = n }
 
 abbrev pub count_found : List ℕ → Top → Step → Lead
 count_found s t Step.No = breach_lead s
@@ -43,16 +42,16 @@ counted_lead s start t = cond (leb (length s) start) (breach_lead s) (count_foun
 
 -- X and W: the place before 268, what the type needs of it, then the group.
 abbrev pub topped_lead : List ℕ → ℕ → Option Top → Lead
-topped_lead s at none = breach_lead s
-topped_lead s at (some t) = counted_lead s at t
+topped_lead s at None = breach_lead s
+topped_lead s at (Some t) = counted_lead s at t
 
 unfoldable pub walked_lead : List ℕ → (Values → Option Top) → Place → Lead
 walked_lead s top p = cond p.ok (topped_lead s p.at (top (marked s p.marks))) (breach_lead s)
 
 -- 0, f, y, B: the place before 268, the rest, then the number and the time.
 abbrev pub numbered_lead : List ℕ → Option Top → Lead
-numbered_lead s none = breach_lead s
-numbered_lead s (some t) = alone_lead s Numbered t.number t.heard
+numbered_lead s None = breach_lead s
+numbered_lead s (Some t) = alone_lead s Numbered t.number t.heard
 
 abbrev pub rest_lead : List ℕ → Place → Place → Lead
 rest_lead s p q = cond q.ok (numbered_lead s (top_x (marked s p.marks))) (breach_lead s)

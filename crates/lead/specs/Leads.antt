@@ -1,6 +1,6 @@
 -- What stands before the entries as the code reads it, and what it leads to. Assumes nothing.
+use Rattle.std.specs.Prelude.{Option, Some, None}
 use Rattle.std.specs.Prelude.{ℕ, ◌≤◌, ◌≡◌, List, [], ◌∷◌}
-use Rattle.std.proofs.Math.Option.{Option, none, some}
 use Rattle.book.specs.declared.Update.{Update}
 use Rattle.message.specs.Message.{Told}
 use Rattle.message.specs.declared.Verdict.{Verdict}
@@ -25,7 +25,7 @@ unfoldable pub top_x : Values → Option Top
 top_x v =
     seq_at v >>= λ n.
     heard_at v >>= λ heard.
-    some (record { verdict = Numbered; first = 279; low = 8; number = n; heard = heard; id = 0; last = 0; loops = 0 })
+    Some (record { verdict = Numbered; first = 279; low = 8; number = n; heard = heard; id = 0; last = 0; loops = 0 })
 
 unfoldable pub top_w : Values → Option Top
 top_w v =
@@ -33,15 +33,15 @@ top_w v =
     instrument_at v >>= λ id.
     last_at v >>= λ last.
     loops_at v >>= λ loops.
-    some (record { verdict = Snapshot; first = 269; low = 12; number = t.number; heard = t.heard; id = id; last = last; loops = loops })
+    Some (record { verdict = Snapshot; first = 269; low = 12; number = t.number; heard = t.heard; id = id; last = last; loops = loops })
 
 unfoldable pub topped : Option Top → Topped
-topped none = Topped.No
-topped (some t) = Topped.Is t
+topped None = Topped.No
+topped (Some t) = Topped.Is t
 
 -- The group from 268 on.
 unfoldable pub counted : ℕ → Top → List Field → Option (List Update)
-counted depth t [] = none
+counted depth t [] = None
 counted depth t (f ∷ fs) = number (ranged_of 2 0 64 f.text) >>= λ n. grouped depth t n fs
 
 -- What leads to the entries of fields is e: 268 says at most 64, and what they give, on a channel of each depth kind, is f.

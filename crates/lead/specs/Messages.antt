@@ -1,6 +1,6 @@
 -- What the fields between 35 and 10 say, by the type of the message (document 01, "Fields"). Assumes nothing.
+use Rattle.std.specs.Prelude.{Option, Some, None}
 use Rattle.std.specs.Prelude.{ℕ, List, [], cond, ◌&&◌, eqb}
-use Rattle.std.proofs.Math.Option.{Option, none, some}
 use Rattle.message.specs.Message.{Head, Message, numbered, snapshot, refused}
 use Rattle.message.specs.declared.Refusal.TheVariants.{BadFields}
 use Rattle.chain.specs.Fields.{Field}
@@ -16,7 +16,7 @@ other_of body =
     need (tidy other_tags head_x (up_to 268 body) && tidy other_tags [] (past 268 body))
     (seq_at (lookup (up_to 268 body)) >>= λ n.
     heard_at (lookup (up_to 268 body)) >>= λ heard.
-    some (numbered n heard []))
+    Some (numbered n heard []))
 
 -- X
 unfoldable pub changes_of : ℕ → List Field → Option Message
@@ -26,7 +26,7 @@ changes_of depth body =
     heard_at (lookup (up_to 268 body)) >>= λ heard.
     group_of 279 entry_x body >>= λ es.
     each (entry_in_x depth) es >>= λ us.
-    some (numbered n heard us))
+    Some (numbered n heard us))
 
 -- W also needs 48, 22, 369, 911 before 268, where 207 may stand too.
 unfoldable pub head_of : Values → Option Head
@@ -36,7 +36,7 @@ head_of v =
     instrument_at v >>= λ id.
     last_at v >>= λ last.
     loops_at v >>= λ loops.
-    some (record { number = n; heard = heard; id = id; last = last; loops = loops })
+    Some (record { number = n; heard = heard; id = id; last = last; loops = loops })
 
 unfoldable pub snapshot_of : ℕ → List Field → Option Message
 snapshot_of depth body =
@@ -44,7 +44,7 @@ snapshot_of depth body =
     (head_of (lookup (up_to 268 body)) >>= λ h.
     group_of 269 entry_w body >>= λ es.
     each (entry_in_w depth h.id) es >>= λ us.
-    need (running firsts us) (some (snapshot h us)))
+    need (running firsts us) (Some (snapshot h us)))
 
 -- By the type: X (88), W (87), or another.
 unfoldable pub typed_as : ℕ → ℕ → List Field → Option Message
@@ -52,5 +52,5 @@ typed_as depth kind body = cond (eqb kind 88) (changes_of depth body) (cond (eqb
 
 -- Any breach under "Fields" is 14.
 unfoldable pub or_bad_fields : Option Message → Message
-or_bad_fields none = refused BadFields
-or_bad_fields (some m) = m
+or_bad_fields None = refused BadFields
+or_bad_fields (Some m) = m

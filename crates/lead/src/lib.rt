@@ -14,7 +14,6 @@ ghost use Rattle.lead.specs.Leads.{bare_of, top_x, top_w, topped, counted, Leads
 ghost use Rattle.lead.specs.LeadOf.{alone_lead, breach_lead, counted_lead, changes_lead, snapshot_lead, other_lead, lead_of};
 
 use chain::Step;
-use digits::Number;
 use message::{Refusal, Verdict};
 use position::Top;
 use tags::Marks;
@@ -50,7 +49,7 @@ pub enum Topped {
 fn top_x(s: &[u8], m: Marks) -> Topped
     ensures { result ≡ topped (top_x (marked s.now m)) }
 {
-    let Number::Is(number) = digits::ranged(
+    let Some(number) = digits::ranged(
         tags::value(s, m, tags::SEQ),
         10,
         1,
@@ -58,7 +57,7 @@ fn top_x(s: &[u8], m: Marks) -> Topped
     ) else {
         return Topped::No;
     };
-    let Number::Is(heard) = moment::moment(tags::value(s, m, tags::SENT)) else {
+    let Some(heard) = moment::moment(tags::value(s, m, tags::SENT)) else {
         return Topped::No;
     };
     Topped::Is(Top {
@@ -80,10 +79,10 @@ fn top_w(s: &[u8], m: Marks) -> Topped
     let Topped::Is(t) = top_x(s, m) else {
         return Topped::No;
     };
-    let Number::Is(id) = values::instrument(s, m) else {
+    let Some(id) = values::instrument(s, m) else {
         return Topped::No;
     };
-    let Number::Is(last) = digits::ranged(
+    let Some(last) = digits::ranged(
         tags::value(s, m, tags::LAST),
         10,
         0,
@@ -91,7 +90,7 @@ fn top_w(s: &[u8], m: Marks) -> Topped
     ) else {
         return Topped::No;
     };
-    let Number::Is(loops) = digits::ranged(
+    let Some(loops) = digits::ranged(
         tags::value(s, m, tags::LOOPS),
         10,
         1,
@@ -150,7 +149,7 @@ fn counted(s: &[u8], start: usize, t: Top) -> Lead
     let Step::Is { tag: _, from, to } = chain::field(s, start) else {
         return breach(s);
     };
-    let Number::Is(count) = digits::ranged(&s[from..to], 2, 0, 64) else {
+    let Some(count) = digits::ranged(&s[from..to], 2, 0, 64) else {
         return breach(s);
     };
     let at = to + 1;

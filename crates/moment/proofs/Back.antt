@@ -1,4 +1,5 @@
 -- What is written is read back. Assumes nothing.
+use Rattle.std.specs.Prelude.{Some}
 use mathlib.Core.Path.{◌≡◌, ◌∙◌}
 use mathlib.Core.List.{List, ◌∷◌, ◌++◌}
 use Prim.Native.Nat.{ℕ, ◌+◌, ◌*◌, ◌/◌, ◌^◌, ◌≤◌, ◌<◌}
@@ -6,7 +7,6 @@ use native.Mathlib.Omega.{arith}
 use borrow.Author.Tests.{le-leb}
 use lib.ListN.{length, take, drop}
 use lib.Seq.{take_at, get_or_at, drop-append-add}
-use Rattle.digits.specs.declared.Number.TheVariants.{Is}
 use Rattle.text.specs.Text.{fixed}
 use Rattle.text.proofs.Written.{read_fixed, length_fixed}
 use Rattle.calendar.specs.Calendar.{days, date_number}
@@ -15,7 +15,7 @@ use Rattle.moment.specs.Moments.{date_of, two_of, minutes_of, clock_of, time_of,
 use Rattle.moment.proofs.Steps.{date_by, time_parts, moment_by}
 use Rattle.moment.proofs.Texts.{length_date, length_clock, length_time}
 
-pub date_back : (d : ℕ) → d < days → date_of (date_text d) ≡ Is d
+pub date_back : (d : ℕ) → d < days → date_of (date_text d) ≡ Some d
 unfolding date_text
 date_back d h =
     let n = date_number d in
@@ -23,7 +23,7 @@ date_back d h =
     let l : n < 10 ^ 8 = omega (arith, date_range d h) in
     date_by (fixed 8 n) (length_fixed 8 n) ∙ rw (read_fixed 8 n (omega arith) (omega arith) l, q.0, q.1)
 
-pub clock_back : (t : ℕ) → t < span → clock_of (clock_text t) ≡ Is (t / 1000)
+pub clock_back : (t : ℕ) → t < span → clock_of (clock_text t) ≡ Some (t / 1000)
 unfolding clock_of minutes_of two_of clock_text fixed
 clock_back t h =
     let i : hour_in t ≤ 23 = omega arith in
@@ -39,7 +39,7 @@ clock_back t h =
 after : {A : Type 0} (p : List A) (y : A) (q : List A) (n : ℕ) → length p ≡ n → drop (n + 1) (p ++ y ∷ q) ≡ q
 after p y q n h = rw (← h) (drop-append-add p (y ∷ q) 1)
 
-pub time_back : (t : ℕ) → t < span → time_of (time_text t) ≡ Is t
+pub time_back : (t : ℕ) → t < span → time_of (time_text t) ≡ Some t
 unfolding time_text
 time_back t h =
     let l = length_clock t in
@@ -50,7 +50,7 @@ time_back t h =
     time_parts (clock_text t ++ (46 ∷ f)) (length_time t) (get_or_at (clock_text t) 46 f 0 8 l)
     ∙ rw (a, b, clock_back t h, read_fixed 3 (milli_in t) (omega arith) (omega arith) (omega arith), q)
 
-pub moment_back : (m : ℕ) → m < moments → moment_of (moment_text m) ≡ Is m
+pub moment_back : (m : ℕ) → m < moments → moment_of (moment_text m) ≡ Some m
 unfolding moment_text
 moment_back m h =
     let d = date_text (day_part m) in

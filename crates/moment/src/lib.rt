@@ -9,7 +9,6 @@ ghost use Rattle.calendar.specs.Calendar.{days};
 ghost use Rattle.moment.specs.Moments.{date_of, two_of, join, held, minutes_of, clock_of, time_of, moment_of, span, moments, time_number, date_text, clock_text, time_text, moment_text};
 ghost use Rattle.moment.specs.Ages.{millis, age_of, since_zero};
 
-use digits::Number;
 
 // The places of a day: 24 hours of 60 minutes of 61 seconds of 1,000 milliseconds.
 pub const SPAN: u64 = 87840000;
@@ -18,100 +17,100 @@ pub const SPAN: u64 = 87840000;
 pub const MOMENTS: u64 = calendar::DAYS * SPAN;
 
 // YYYYMMDD, held as its day.
-pub fn date(text: &[u8]) -> Number
+pub fn date(text: &[u8]) -> Option<u64>
     ensures { result ≡ date_of text.now }
 {
     if text.len() != 8 {
-        return Number::No;
+        return None;
     }
-    let Number::Is(n) = digits::digits(text, 8) else {
-        return Number::No;
+    let Some(n) = digits::digits(text, 8) else {
+        return None;
     };
     if calendar::is_date(n) {
-        return Number::Is(calendar::day_of(n));
+        return Some(calendar::day_of(n));
     }
-    Number::No
+    None
 }
 
 // Hours, minutes or seconds.
-fn two(text: &[u8], high: u64) -> Number
+fn two(text: &[u8], high: u64) -> Option<u64>
     ensures { result ≡ two_of high text.now }
 {
-    let Number::Is(v) = digits::digits(text, 2) else {
-        return Number::No;
+    let Some(v) = digits::digits(text, 2) else {
+        return None;
     };
     if high < v {
-        return Number::No;
+        return None;
     }
-    Number::Is(v)
+    Some(v)
 }
 
 // Two parts as one number, where both were read.
-fn joined(a: Number, k: u64, b: Number) -> Number
+fn joined(a: Option<u64>, k: u64, b: Option<u64>) -> Option<u64>
     requires { held a * k + held b < 2 ^ 64 }
     ensures { result ≡ join k a b }
 {
-    let Number::Is(x) = a else {
-        return Number::No;
+    let Some(x) = a else {
+        return None;
     };
-    let Number::Is(y) = b else {
-        return Number::No;
+    let Some(y) = b else {
+        return None;
     };
-    Number::Is(x * k + y)
+    Some(x * k + y)
 }
 
 // HH:MM.
-fn minutes(text: &[u8]) -> Number
+fn minutes(text: &[u8]) -> Option<u64>
     ensures { result ≡ minutes_of text.now }
 {
     if text.len() != 5 {
-        return Number::No;
+        return None;
     }
     if text[2] != 58 {
-        return Number::No;
+        return None;
     }
     joined(two(&text[..2], 23), 60, two(&text[3..], 59))
 }
 
 // HH:MM:SS.
-fn clock(text: &[u8]) -> Number
+fn clock(text: &[u8]) -> Option<u64>
     ensures { result ≡ clock_of text.now }
 {
     if text.len() != 8 {
-        return Number::No;
+        return None;
     }
     if text[5] != 58 {
-        return Number::No;
+        return None;
     }
     joined(minutes(&text[..5]), 61, two(&text[6..], 60))
 }
 
 // HH:MM:SS with or without .sss.
-pub fn time(text: &[u8]) -> Number
+pub fn time(text: &[u8]) -> Option<u64>
     ensures { result ≡ time_of text.now }
 {
     let n = text.len();
     if n == 8 {
-        return joined(clock(text), 1000, Number::Is(0));
+        return joined(clock(text), 1000, Some(0));
     }
     if n != 12 {
-        return Number::No;
+        return None;
     }
     if text[8] != 46 {
-        return Number::No;
+        return None;
     }
     joined(clock(&text[..8]), 1000, digits::digits(&text[9..], 3))
 }
 
 // YYYYMMDD-HH:MM:SS with or without .sss, as in tag 52.
-pub fn moment(text: &[u8]) -> Number
+pub fn moment(text: &[u8]) -> Option<u64>
     ensures { result ≡ moment_of text.now }
 {
     if text.len() < 9 {
-        return Number::No;
+        return None;
     }
     if text[8] != 45 {
-        return Number::No;
+        return None;
     }
     joined(date(&text[..8]), SPAN, time(&text[9..]))
 }

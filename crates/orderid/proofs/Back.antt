@@ -1,4 +1,7 @@
 -- An order id read is sound and written as it was; a sound one written is read as it was. Assumes nothing.
+use Rattle.std.specs.Prelude.{Some, None}
+use Rattle.orderid.specs.OrderIds.{order_id}
+use Rattle.orderid.specs.declared.OrderId.{OrderId}
 use mathlib.Core.Path.{◌≡◌, refl, sym, ap, ◌∙◌}
 use mathlib.Core.Bool.{Bool, true, false, cond, ◌&&◌, ◌||◌, or-true, false≢true}
 use mathlib.Core.List.{List, [], ◌∷◌, ◌++◌, append-nil}
@@ -10,7 +13,6 @@ use lib.ListN.{length, take, drop, length-append, length-take, length-drop, take
 use lib.Seq.{take_all, take_at, drop_at}
 use Rattle.text.specs.Text.{free}
 use Rattle.orderid.specs.OrderIds.{id_bytes, is_id, word_from, id_of, word_text, id_text, top, full, id_sound}
-use Rattle.orderid.specs.declared.OrderId.TheVariants.{Is, No}
 use Rattle.orderid.proofs.Words.{top_of, both, id_byte_lem, bytes_append, text_zero, text_more, text_most, text_bytes, text_full, word_back, bytes_back, word_top, word_low}
 
 -- the words of 8 bytes are those from full to top
@@ -34,12 +36,14 @@ pub record Read (t : List ℕ) (a b : ℕ) : Type 0 where
   pub first : a ≡ word_from 0 (take 8 t)
   pub second : b ≡ word_from 0 (drop 8 t)
 
-pub was_read_lem : (t : List ℕ) {a b : ℕ} → id_of t ≡ Is a b → Read t a b
+pub was_read_lem : (t : List ℕ) {a b : ℕ} → id_of t ≡ Some (order_id a b) → Read t a b
 unfolding id_of is_id
 was_read_lem t {a} {b} h = go (leb 1 (length t)) (leb (length t) 16) (id_bytes t) refl refl refl h
   where
-    go : (x y z : Bool) → leb 1 (length t) ≡ x → leb (length t) 16 ≡ y → id_bytes t ≡ z → cond (x && (y && z)) (Is (word_from 0 (take 8 t)) (word_from 0 (drop 8 t))) No ≡ Is a b → Read t a b
-    go true true true p q r e = record { some = leb-true _ _ p; most = leb-true _ _ q; fine = r; first = cc; second = cc }
+    go : (x y z : Bool) → leb 1 (length t) ≡ x → leb (length t) 16 ≡ y → id_bytes t ≡ z → cond (x && (y && z)) (Some (order_id (word_from 0 (take 8 t)) (word_from 0 (drop 8 t)))) None ≡ Some (order_id a b) → Read t a b
+    go true true true p q r e =
+        let words : order_id a b ≡ order_id (word_from 0 (take 8 t)) (word_from 0 (drop 8 t)) = cc in
+        record { some = leb-true _ _ p; most = leb-true _ _ q; fine = r; first = ap (λ (i : OrderId). i.by) words; second = ap (λ (i : OrderId). i.more) words }
     go true true false p q r e = let z : ◌≡◌ {A = ℕ} 0 1 = cc in absurd (omega arith)
     go true false z p q r e = let z : ◌≡◌ {A = ℕ} 0 1 = cc in absurd (omega arith)
     go false y z p q r e = let z : ◌≡◌ {A = ℕ} 0 1 = cc in absurd (omega arith)
@@ -75,7 +79,7 @@ word_some t h k =
     omega (arith, word_above t (length t - 1) h z)
 
 -- ---- what is read is sound
-pub read_sound : (t : List ℕ) {a b : ℕ} → id_of t ≡ Is a b → id_sound a b ≡ true
+pub read_sound : (t : List ℕ) {a b : ℕ} → id_of t ≡ Some (order_id a b) → id_sound a b ≡ true
 read_sound t {a} {b} h =
     let r = was_read_lem t h in
     let p = parts 8 t r.fine in
@@ -96,7 +100,7 @@ read_sound t {a} {b} h =
         rw (w, or-true (eqb b 0))
 
 -- ---- what is read is written as it was
-pub text_back : (t : List ℕ) {a b : ℕ} → id_of t ≡ Is a b → id_text a b ≡ t
+pub text_back : (t : List ℕ) {a b : ℕ} → id_of t ≡ Some (order_id a b) → id_text a b ≡ t
 unfolding id_text
 text_back t {a} {b} h =
     let r = was_read_lem t h in
@@ -161,7 +165,7 @@ pub id_fine_lem : (a b : ℕ) → id_sound a b ≡ true → is_id (id_text a b) 
 unfolding is_id
 id_fine_lem a b h = rw (le-leb 1 (length (id_text a b)) (id_some a b h), le-leb (length (id_text a b)) 16 (id_most a b), id_bytes_lem)
 
-pub read_back : (a b : ℕ) → id_sound a b ≡ true → id_of (id_text a b) ≡ Is a b
+pub read_back : (a b : ℕ) → id_sound a b ≡ true → id_of (id_text a b) ≡ Some (order_id a b)
 unfolding id_of
 read_back a b h =
     let s = is_sound_lem a b h in

@@ -1,7 +1,7 @@
 -- Order ids (document 01, "Fields": 37), held as two numbers. Assumes nothing.
+use Rattle.std.specs.Prelude.{Option, Some, None}
 use Rattle.std.specs.Prelude.{ℕ, zero, suc, ◌+◌, ◌-◌, ◌*◌, ◌/◌, ◌%◌, List, [], ◌∷◌, ◌++◌, Bool, true, cond, ◌&&◌, length, take, drop, leb, eqb}
 use Rattle.orderid.specs.declared.OrderId.{OrderId}
-use Rattle.orderid.specs.declared.OrderId.TheVariants.{Is, No}
 pub use Rattle.holding.specs.OrderIds.{top, full, id_sound}
 
 -- a byte of 33 to 126
@@ -22,9 +22,13 @@ abbrev pub word_from : ℕ → List ℕ → ℕ
 word_from v [] = v
 word_from v (b ∷ bs) = word_from (v * 94 + (b - 32)) bs
 
+-- an id of two words
+abbrev pub order_id : ℕ → ℕ → OrderId
+order_id a b = record { by = a; more = b }
+
 -- the first 8 bytes are one word, the rest another, 0 where there is none
-unfoldable pub id_of : List ℕ → OrderId
-id_of t = cond (is_id t) (Is (word_from 0 (take 8 t)) (word_from 0 (drop 8 t))) No
+unfoldable pub id_of : List ℕ → Option OrderId
+id_of t = cond (is_id t) (Some (order_id (word_from 0 (take 8 t)) (word_from 0 (drop 8 t)))) None
 
 -- the bytes of a word, at most k of them
 unfoldable pub word_text : ℕ → ℕ → List ℕ

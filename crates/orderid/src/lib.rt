@@ -8,18 +8,11 @@ ghost use Rattle.text.specs.Text.{Wrote};
 ghost use Rattle.orderid.specs.OrderIds.{id_of, id_text, packed_of};
 ghost use Rattle.orderid.specs.Words.{word_of, bytes_in};
 
-// An id that was read, or none.
+// An id as two words; the second is 0 where the first has room for all its bytes.
 #[derive(Clone, Copy)]
-pub enum OrderId {
-    Is(u64, u64),
-    No,
-}
-
-// A word that was read, or none.
-#[derive(Clone, Copy)]
-enum Word {
-    Is(u64),
-    No,
+pub struct OrderId {
+    pub by: u64,
+    pub more: u64,
 }
 
 fn wide(x: u8) -> u64
@@ -29,7 +22,7 @@ fn wide(x: u8) -> u64
 }
 
 // The word of at most 8 bytes; that of no bytes is 0.
-fn read_word(text: &[u8]) -> Word
+fn read_word(text: &[u8]) -> Option<u64>
     requires { length text.now ≤ 8 }
     ensures { result ≡ word_of text.now }
 {
@@ -38,41 +31,41 @@ fn read_word(text: &[u8]) -> Word
     while i < text.len() {
         let b = text[i];
         if b < 33 {
-            return Word::No;
+            return None;
         }
         if 126 < b {
-            return Word::No;
+            return None;
         }
         v = v * 94 + wide(b - 32);
         i += 1;
     }
-    Word::Is(v)
+    Some(v)
 }
 
 // An id of 1 to 16 bytes.
-pub fn read(text: &[u8]) -> OrderId
+pub fn read(text: &[u8]) -> Option<OrderId>
     ensures { result ≡ id_of text.now }
 {
     let n = text.len();
     if n == 0 {
-        return OrderId::No;
+        return None;
     }
     if 16 < n {
-        return OrderId::No;
+        return None;
     }
     if n <= 8 {
-        let Word::Is(a) = read_word(text) else {
-            return OrderId::No;
+        let Some(a) = read_word(text) else {
+            return None;
         };
-        return OrderId::Is(a, 0);
+        return Some(OrderId { by: a, more: 0 });
     }
-    let Word::Is(a) = read_word(&text[..8]) else {
-        return OrderId::No;
+    let Some(a) = read_word(&text[..8]) else {
+        return None;
     };
-    let Word::Is(b) = read_word(&text[8..]) else {
-        return OrderId::No;
+    let Some(b) = read_word(&text[8..]) else {
+        return None;
     };
-    OrderId::Is(a, b)
+    Some(OrderId { by: a, more: b })
 }
 
 // A word's bytes in one number, the first lowest, zeros above the last.

@@ -1,8 +1,8 @@
 -- A walk along a place: what is known at each field, and what each end of the walk tells. Assumes nothing.
+use Rattle.std.specs.Prelude.{Some, None}
 use mathlib.Core.Path.{◌≡◌, refl, sym, ap, ◌∙◌}
 use mathlib.Core.List.{List, [], ◌∷◌, ◌++◌}
 use mathlib.Core.Bool.{Bool, true, false, cond, not, ◌&&◌, ◌||◌, true≢false, false≢true}
-use mathlib.Core.Option.{none, some}
 use Prim.Native.Nat.{ℕ, ◌+◌, ◌-◌, ◌≤◌, ◌<◌}
 use native.Mathlib.Omega.{arith}
 use borrow.Author.Tests.{lt-ltb, eqb-true, eqb-false, eq-eqb, ne_eqb, not-true}
@@ -161,7 +161,7 @@ module _ (s : List ℕ) (stop named low high : ℕ) (fs : List Field) (r : Place
   pub was_untidy : Tells named s r (split_at stop named low high fs) → r.ok ≡ false → tidy (below named) (between low high) (up_to stop fs) ≡ false
   was_untidy h q = go (tidy (below named) (between low high) (up_to stop fs)) h
     where
-      go : (z : Bool) → Tells named s r (cond z (some (record { inside = up_to stop fs; rest = onward stop fs })) none) → z ≡ false
+      go : (z : Bool) → Tells named s r (cond z (Some (record { inside = up_to stop fs; rest = onward stop fs })) None) → z ≡ false
       go true w = absurd (false≢true (sym q ∙ w.ok))
       go false w = refl
 
@@ -169,6 +169,6 @@ module _ (s : List ℕ) (stop named low high : ℕ) (fs : List Field) (r : Place
   was_tidy h q = go (tidy (below named) (between low high) (up_to stop fs)) refl h
     where
       go : (z : Bool) → tidy (below named) (between low high) (up_to stop fs) ≡ z
-          → Tells named s r (cond z (some (record { inside = up_to stop fs; rest = onward stop fs })) none) → Passed s stop named low high fs r
+          → Tells named s r (cond z (Some (record { inside = up_to stop fs; rest = onward stop fs })) None) → Passed s stop named low high fs r
       go true e w = record { tidy = e; holds = w.holds; rest = w.rest }
       go false e w = absurd (false≢true (sym w ∙ q))

@@ -1,6 +1,6 @@
 -- A place of a message and what follows it, and what a walk along it tells. Assumes nothing.
+use Rattle.std.specs.Prelude.{Option, Some, None}
 use Rattle.std.specs.Prelude.{ℕ, ◌≡◌, List, true, false, cond}
-use Rattle.std.proofs.Math.Option.{Option, none, some}
 use Rattle.chain.specs.Fields.{Field}
 use Rattle.chain.specs.Places.{left}
 use Rattle.tags.specs.Tags.{tidy, up_to, onward}
@@ -15,7 +15,7 @@ pub record Split : Type 0 where
 -- The place up to a tag, unless a rule is breached.
 abbrev pub split_at : ℕ → ℕ → ℕ → ℕ → List Field → Option Split
 split_at stop named low high fs =
-    cond (tidy (below named) (between low high) (up_to stop fs)) (some (record { inside = up_to stop fs; rest = onward stop fs })) none
+    cond (tidy (below named) (between low high) (up_to stop fs)) (Some (record { inside = up_to stop fs; rest = onward stop fs })) None
 
 -- What follows a place that was walked.
 pub record Walked (named : ℕ) (s : List ℕ) (r : Place) (p : Split) : Type 0 where
@@ -25,5 +25,5 @@ pub record Walked (named : ℕ) (s : List ℕ) (r : Place) (p : Split) : Type 0 
 
 -- What a walk tells.
 abbrev pub Tells : ℕ → List ℕ → Place → Option Split → Type 0
-Tells named s r none = r.ok ≡ false
-Tells named s r (some p) = Walked named s r p
+Tells named s r None = r.ok ≡ false
+Tells named s r (Some p) = Walked named s r p

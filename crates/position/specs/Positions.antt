@@ -1,6 +1,6 @@
 -- An entry of the group of an X or a W, and in W its position (document 01, "Fields"). Assumes nothing.
+use Rattle.std.specs.Prelude.{Option, Some, None}
 use Rattle.std.specs.Prelude.{ℕ, ◌+◌, ◌≡◌, true, cond, ◌||◌, eqb}
-use Rattle.std.proofs.Math.Option.{Option, none, some}
 use Rattle.book.specs.declared.Update.{Update}
 use Rattle.tags.specs.Tags.{has}
 use Rattle.tags.specs.Slots.{between, breaks}
@@ -27,8 +27,8 @@ entry_in depth t v = cond (eqb t.first 279) (entry_in_x depth v) (entry_in_w dep
 
 -- In W an entry stands at the next position of its side.
 unfoldable pub at_next : Top → Next → Option Update → Option (Option Update)
-at_next t next none = some none
-at_next t next (some u) = need (eqb t.first 279 || eqb u.place (next_on next u.what)) (some (some u))
+at_next t next None = Some None
+at_next t next (Some u) = need (eqb t.first 279 || eqb u.place (next_on next u.what)) (Some (Some u))
 
 unfoldable pub entry_next : ℕ → Top → Next → Values → Option (Option Update)
 entry_next depth t next v = entry_in depth t v >>= at_next t next

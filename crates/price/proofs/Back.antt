@@ -1,4 +1,5 @@
 -- What is written as a price reads back. Assumes nothing.
+use Rattle.std.specs.Prelude.{Some}
 use mathlib.Core.Path.{◌≡◌, refl, sym, ap, ◌∙◌}
 use mathlib.Core.Bool.{Bool, true, false, cond, not, ◌&&◌}
 use mathlib.Core.List.{List, [], ◌∷◌, ◌++◌, append-nil}
@@ -14,8 +15,6 @@ use lib.ListN.{length, take, drop}
 use lib.Seq.{take-append_seam, drop-append_seam, take-length, drop-length}
 use Rattle.digits.specs.Digits.{is_digit, all_digits, value, digits_of}
 use Rattle.price.specs.Price.{most_wholes, most_decimals, unit, top, ahead, fraction_of, joined, amount_of, price_of, plus, minus}
-use Rattle.digits.specs.declared.Number.TheVariants.{Is}
-use Rattle.price.specs.declared.Priced.{Priced}
 use Rattle.digits.proofs.Width.{both}
 use Rattle.text.specs.Text.{fixed, width_of, decimal, free}
 use Rattle.price.specs.PriceText.{decimals, fraction_text, amount_text, price_text}
@@ -69,32 +68,32 @@ kept (suc k) f p h =
     go false e r =
         record { any = rw length_fixed (omega arith); most = omega (arith, length_fixed (suc k) f); digits = digits_fixed (suc k) f; same = rw (length_fixed, sub_self, value_fixed (suc k) f h) (mul-one f) }
 
-fraction_back : (f : ℕ) → 0 < f → f < unit → fraction_of (46 ∷ decimals most_decimals f) ≡ Is f
+fraction_back : (f : ℕ) → 0 < f → f < unit → fraction_of (46 ∷ decimals most_decimals f) ≡ Some f
 unfolding fraction_of digits_of
 fraction_back f p h =
     let a = kept most_decimals f p h in
     rw (le-leb 1 (length (decimals most_decimals f)) a.any, le-leb (length (decimals most_decimals f)) most_decimals a.most, a.digits, a.same)
 
-pub parts_back : (w f : ℕ) → w < 10 ^ most_wholes → f < unit → amount_of (decimal w ++ fraction_text f) ≡ Is (w * unit + f)
+pub parts_back : (w f : ℕ) → w < 10 ^ most_wholes → f < unit → amount_of (decimal w ++ fraction_text f) ≡ Some (w * unit + f)
 unfolding amount_of fraction_text fraction_of
 parts_back w f h k = go (eqb f 0) refl
   where
     clear : free 46 (decimal w) ≡ true
     clear = digits_free 46 (decimal w) refl (digits_decimal w)
 
-    read : digits_of most_wholes (decimal w) ≡ Is w
+    read : digits_of most_wholes (decimal w) ≡ Some w
     read = digits_back most_wholes w (omega arith) (omega arith) h
 
     go : (t : Bool) → eqb f 0 ≡ t
-        → joined (digits_of most_wholes (take (ahead 46 (decimal w ++ cond t [] (46 ∷ decimals most_decimals f))) (decimal w ++ cond t [] (46 ∷ decimals most_decimals f)))) (fraction_of (drop (ahead 46 (decimal w ++ cond t [] (46 ∷ decimals most_decimals f))) (decimal w ++ cond t [] (46 ∷ decimals most_decimals f)))) ≡ Is (w * unit + f)
-    go true e = rw (append-nil (decimal w), ahead_none 46 (decimal w) clear, take-length (decimal w), drop-length (decimal w), read) (ap (λ (n : ℕ). Is (w * unit + n)) (sym (eqb-true f 0 e)))
+        → joined (digits_of most_wholes (take (ahead 46 (decimal w ++ cond t [] (46 ∷ decimals most_decimals f))) (decimal w ++ cond t [] (46 ∷ decimals most_decimals f)))) (fraction_of (drop (ahead 46 (decimal w ++ cond t [] (46 ∷ decimals most_decimals f))) (decimal w ++ cond t [] (46 ∷ decimals most_decimals f)))) ≡ Some (w * unit + f)
+    go true e = rw (append-nil (decimal w), ahead_none 46 (decimal w) clear, take-length (decimal w), drop-length (decimal w), read) (ap (λ (n : ℕ). Some (w * unit + n)) (sym (eqb-true f 0 e)))
     go false e =
-        let d : fraction_of (46 ∷ decimals most_decimals f) ≡ Is f = fraction_back f (omega (arith, eqb-false f 0 e)) k in
-        rw (ahead_at 46 (decimal w) (decimals most_decimals f) clear, take-append_seam (decimal w) (46 ∷ decimals most_decimals f), drop-append_seam (decimal w) (46 ∷ decimals most_decimals f), read) (ap (joined (Is w)) d)
+        let d : fraction_of (46 ∷ decimals most_decimals f) ≡ Some f = fraction_back f (omega (arith, eqb-false f 0 e)) k in
+        rw (ahead_at 46 (decimal w) (decimals most_decimals f) clear, take-append_seam (decimal w) (46 ∷ decimals most_decimals f), drop-append_seam (decimal w) (46 ∷ decimals most_decimals f), read) (ap (joined (Some w)) d)
 
-pub amount_back : (m : ℕ) → m < top → amount_of (amount_text m) ≡ Is m
+pub amount_back : (m : ℕ) → m < top → amount_of (amount_text m) ≡ Some m
 unfolding amount_text
-amount_back m h = parts_back (m / unit) (m % unit) (omega arith) (omega arith) ∙ ap Is (let q : m / unit * unit + m % unit ≡ m = omega arith in q)
+amount_back m h = parts_back (m / unit) (m % unit) (omega arith) (omega arith) ∙ ap Some (let q : m / unit * unit + m % unit ≡ m = omega arith in q)
 
 no_minus : (a r : List ℕ) → 0 < length a → all_digits a ≡ true → price_of (a ++ r) ≡ plus (amount_of (a ++ r))
 unfolding price_of
@@ -117,7 +116,7 @@ unfolding price_of
 minus_amount m = refl
 
 -- a price written is read back
-pub price_back : (p : ℤ) → nat_abs p < top → price_of (price_text p) ≡ Priced.Is p
+pub price_back : (p : ℤ) → nat_abs p < top → price_of (price_text p) ≡ Some p
 unfolding price_text
 price_back (pos n) h = plus_amount n ∙ ap plus (amount_back n h)
 price_back (negsuc n) h = minus_amount (suc n) ∙ ap minus (amount_back (suc n) h)

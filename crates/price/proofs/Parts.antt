@@ -1,4 +1,5 @@
 -- The parts of a price, and how large each can be. Assumes nothing.
+use Rattle.std.specs.Prelude.{Option, Some, None}
 use mathlib.Core.Path.{◌≡◌, refl}
 use mathlib.Core.List.{List, [], ◌∷◌}
 use mathlib.Core.Bool.{Bool, true, false, cond}
@@ -13,10 +14,7 @@ use lib.IntN.{ℤ, pos, neg_ℤ, nat_abs}
 use lib.ListN.{length, get_or, take, drop, length-drop, drop_of_length-le}
 use lib.Seq.{drop-cons, drop-length, take_all}
 use Rattle.digits.specs.Digits.{digits_of}
-use Rattle.digits.specs.declared.Number.{Number}
-use Rattle.digits.specs.declared.Number.TheVariants.{Is, No}
 use Rattle.digits.proofs.Width.{below, digits_width}
-use Rattle.price.specs.declared.Priced.{Priced}
 use Rattle.price.specs.Price.{most_wholes, most_decimals, unit, top, ahead, scaled, fraction_of, joined, amount_of, minus, plus, price_of}
 
 -- where the point stands, a byte at a time
@@ -35,7 +33,7 @@ pub tail : (s : List ℕ) (q : ℕ) → take (length s - q) (drop q s) ≡ drop 
 tail s q = take_all (length s - q) (drop q s) (omega (arith, length-drop q s))
 
 -- what follows the point
-pub no_fraction : (s : List ℕ) (p : ℕ) → p ≡ length s → fraction_of (drop p s) ≡ Is 0
+pub no_fraction : (s : List ℕ) (p : ℕ) → p ≡ length s → fraction_of (drop p s) ≡ Some 0
 unfolding fraction_of
 no_fraction s p q = rw (q, drop-length)
 
@@ -48,17 +46,17 @@ module _ (s : List ℕ) (p : ℕ) (point : p ≡ ahead 46 s) where
   unfolding amount_of
   amount_parts = rw point
 
-  pub amount_no : digits_of most_wholes (take p s) ≡ No → amount_of s ≡ No
+  pub amount_no : digits_of most_wholes (take p s) ≡ None → amount_of s ≡ None
   amount_no a = rw (amount_parts, a)
 
-  pub amount_whole : (w : ℕ) → digits_of most_wholes (take p s) ≡ Is w → p ≡ length s → amount_of s ≡ Is (w * unit)
+  pub amount_whole : (w : ℕ) → digits_of most_wholes (take p s) ≡ Some w → p ≡ length s → amount_of s ≡ Some (w * unit)
   amount_whole w a q = rw (amount_parts, a, no_fraction s p q, add-zero)
 
-  pub amount_half : (w : ℕ) → digits_of most_wholes (take p s) ≡ Is w → p < length s → digits_of most_decimals (drop (p + 1) s) ≡ No → amount_of s ≡ No
+  pub amount_half : (w : ℕ) → digits_of most_wholes (take p s) ≡ Some w → p < length s → digits_of most_decimals (drop (p + 1) s) ≡ None → amount_of s ≡ None
   amount_half w a l b = rw (amount_parts, a, some_fraction s p l, b)
 
-  pub amount_both : (w f : ℕ) → digits_of most_wholes (take p s) ≡ Is w → p < length s → digits_of most_decimals (drop (p + 1) s) ≡ Is f
-      → amount_of s ≡ Is (w * unit + f * 10 ^ (most_decimals - (length s - (p + 1))))
+  pub amount_both : (w f : ℕ) → digits_of most_wholes (take p s) ≡ Some w → p < length s → digits_of most_decimals (drop (p + 1) s) ≡ Some f
+      → amount_of s ≡ Some (w * unit + f * 10 ^ (most_decimals - (length s - (p + 1))))
   amount_both w f a l b = rw (amount_parts, a, some_fraction s p l, b)
 
 -- n digits after the point are below a unit, whatever n
@@ -68,14 +66,14 @@ scaled_lt n f h l =
     let p : f * 10 ^ (most_decimals - n) < 10 ^ n * 10 ^ (most_decimals - n) = mul-lt-mul_of_pos_right l (one-le-pow (most_decimals - n) 10 (omega arith)) in
     rw (← pow-add 10 n (most_decimals - n), q) at p
 
-pub fraction_lt : (s : List ℕ) (p f m : ℕ) → digits_of most_decimals (drop (p + 1) s) ≡ Is f → m ≡ 10 ^ (most_decimals - (length s - (p + 1))) → f * m < unit
+pub fraction_lt : (s : List ℕ) (p f m : ℕ) → digits_of most_decimals (drop (p + 1) s) ≡ Some f → m ≡ 10 ^ (most_decimals - (length s - (p + 1))) → f * m < unit
 fraction_lt s p f m a q =
     let w = digits_width most_decimals (drop (p + 1) s) a in
     let l : length (drop (p + 1) s) ≡ length s - (p + 1) = length-drop (p + 1) s in
     rw (q, ← l) (scaled_lt (length (drop (p + 1) s)) f w.0 w.1)
 
 -- the parts of a signed price
-pub price_none : (s : List ℕ) → length s ≡ 0 → price_of s ≡ Priced.No
+pub price_none : (s : List ℕ) → length s ≡ 0 → price_of s ≡ None
 unfolding price_of
 price_none [] h = refl
 price_none (b ∷ bs) h = absurd (omega arith)
@@ -91,21 +89,21 @@ price_plus [] l h = absurd (omega arith)
 price_plus (b ∷ bs) l h = simp (ne_eqb b 45 h)
 
 -- an amount is below `top`, and so is a price from 0
-scaled_small : (r : Number) (n v : ℕ) → ((f : ℕ) → r ≡ Is f → (n ≤ most_decimals) × (f < 10 ^ n)) → scaled (most_decimals - n) r ≡ Is v → v < unit
-scaled_small (Is f) n v h q = let a = h f refl in let e : f * 10 ^ (most_decimals - n) ≡ v = cc in omega (arith, scaled_lt n f a.0 a.1)
-scaled_small No n v h q = let z : ◌≡◌ {A = ℕ} 0 1 = cc in absurd (omega arith)
+scaled_small : (r : Option ℕ) (n v : ℕ) → ((f : ℕ) → r ≡ Some f → (n ≤ most_decimals) × (f < 10 ^ n)) → scaled (most_decimals - n) r ≡ Some v → v < unit
+scaled_small (Some f) n v h q = let a = h f refl in let e : f * 10 ^ (most_decimals - n) ≡ v = cc in omega (arith, scaled_lt n f a.0 a.1)
+scaled_small None n v h q = let z : ◌≡◌ {A = ℕ} 0 1 = cc in absurd (omega arith)
 
-fraction_small : (bs : List ℕ) (v : ℕ) → fraction_of bs ≡ Is v → v < unit
+fraction_small : (bs : List ℕ) (v : ℕ) → fraction_of bs ≡ Some v → v < unit
 unfolding fraction_of
 fraction_small [] v q = let e : 0 ≡ v = cc in omega arith
 fraction_small (b ∷ bs) v q = scaled_small (digits_of most_decimals bs) (length bs) v (λ f e. digits_width most_decimals bs e) q
 
-joined_small : (a b : Number) (v : ℕ) → ((f : ℕ) → a ≡ Is f → f < 10 ^ most_wholes) → ((f : ℕ) → b ≡ Is f → f < unit) → joined a b ≡ Is v → v < top
-joined_small (Is a) (Is b) v h k q = let e : a * unit + b ≡ v = cc in omega (arith, h a refl, k b refl)
-joined_small (Is a) No v h k q = let z : ◌≡◌ {A = ℕ} 0 1 = cc in absurd (omega arith)
-joined_small No b v h k q = let z : ◌≡◌ {A = ℕ} 0 1 = cc in absurd (omega arith)
+joined_small : (a b : Option ℕ) (v : ℕ) → ((f : ℕ) → a ≡ Some f → f < 10 ^ most_wholes) → ((f : ℕ) → b ≡ Some f → f < unit) → joined a b ≡ Some v → v < top
+joined_small (Some a) (Some b) v h k q = let e : a * unit + b ≡ v = cc in omega (arith, h a refl, k b refl)
+joined_small (Some a) None v h k q = let z : ◌≡◌ {A = ℕ} 0 1 = cc in absurd (omega arith)
+joined_small None b v h k q = let z : ◌≡◌ {A = ℕ} 0 1 = cc in absurd (omega arith)
 
-pub amount_small : (bs : List ℕ) (v : ℕ) → amount_of bs ≡ Is v → v < top
+pub amount_small : (bs : List ℕ) (v : ℕ) → amount_of bs ≡ Some v → v < top
 unfolding amount_of
 amount_small bs v q =
     joined_small (digits_of most_wholes (take (ahead 46 bs) bs)) (fraction_of (drop (ahead 46 bs) bs)) v (λ f e. below most_wholes (take (ahead 46 bs) bs) e) (λ f e. fraction_small (drop (ahead 46 bs) bs) f e) q
@@ -114,20 +112,20 @@ abs_neg : (n : ℕ) → nat_abs (neg_ℤ (pos n)) ≡ n
 abs_neg zero = refl
 abs_neg (suc n) = refl
 
-plus_small : (r : Number) (p : ℤ) → ((v : ℕ) → r ≡ Is v → v < top) → plus r ≡ Priced.Is p → nat_abs p < top
-plus_small (Is n) p h q = let e : pos n ≡ p = cc in rw (← e) (h n refl)
-plus_small No p h q = let z : ◌≡◌ {A = ℕ} 0 1 = cc in absurd (omega arith)
+plus_small : (r : Option ℕ) (p : ℤ) → ((v : ℕ) → r ≡ Some v → v < top) → plus r ≡ Some p → nat_abs p < top
+plus_small (Some n) p h q = let e : pos n ≡ p = cc in rw (← e) (h n refl)
+plus_small None p h q = let z : ◌≡◌ {A = ℕ} 0 1 = cc in absurd (omega arith)
 
-minus_small : (r : Number) (p : ℤ) → ((v : ℕ) → r ≡ Is v → v < top) → minus r ≡ Priced.Is p → nat_abs p < top
-minus_small (Is n) p h q = let e : neg_ℤ (pos n) ≡ p = cc in rw (← e, abs_neg) (h n refl)
-minus_small No p h q = let z : ◌≡◌ {A = ℕ} 0 1 = cc in absurd (omega arith)
+minus_small : (r : Option ℕ) (p : ℤ) → ((v : ℕ) → r ≡ Some v → v < top) → minus r ≡ Some p → nat_abs p < top
+minus_small (Some n) p h q = let e : neg_ℤ (pos n) ≡ p = cc in rw (← e, abs_neg) (h n refl)
+minus_small None p h q = let z : ◌≡◌ {A = ℕ} 0 1 = cc in absurd (omega arith)
 
 -- every price that is read is below `top`, and above its negative
-pub price_small : (bs : List ℕ) (p : ℤ) → price_of bs ≡ Priced.Is p → nat_abs p < top
+pub price_small : (bs : List ℕ) (p : ℤ) → price_of bs ≡ Some p → nat_abs p < top
 unfolding price_of
 price_small [] p q = let z : ◌≡◌ {A = ℕ} 0 1 = cc in absurd (omega arith)
 price_small (b ∷ bs) p q = go (eqb b 45) q
   where
-    go : (t : Bool) → cond t (minus (amount_of bs)) (plus (amount_of (b ∷ bs))) ≡ Priced.Is p → nat_abs p < top
+    go : (t : Bool) → cond t (minus (amount_of bs)) (plus (amount_of (b ∷ bs))) ≡ Some p → nat_abs p < top
     go true e = minus_small (amount_of bs) p (λ v. amount_small bs v) e
     go false e = plus_small (amount_of (b ∷ bs)) p (λ v. amount_small (b ∷ bs) v) e

@@ -7,15 +7,7 @@ ghost use Rattle.text.specs.Text.{Wrote};
 ghost use Rattle.price.specs.Price.{most_decimals, unit, top, ahead, amount_of, price_of};
 ghost use Rattle.price.specs.PriceText.{decimals, amount_text, price_text};
 
-use digits::Number;
 use holding::{DECIMALS, UNIT, WHOLES};
-
-// A price that was read, or none.
-#[derive(Clone, Copy)]
-pub enum Priced {
-    Is(i64),
-    No,
-}
 
 // How many bytes stand before the first x.
 fn find(text: &[u8], x: u8) -> usize
@@ -52,22 +44,22 @@ fn scale(n: usize) -> u64
 }
 
 // Without its sign: digits, then nothing or a point and digits.
-fn amount(text: &[u8]) -> Number
+fn amount(text: &[u8]) -> Option<u64>
     ensures { result ≡ amount_of text.now }
 {
     let n = text.len();
     let p = find(text, 46);
-    let Number::Is(w) = digits::digits(&text[..p], WHOLES) else {
-        return Number::No;
+    let Some(w) = digits::digits(&text[..p], WHOLES) else {
+        return None;
     };
     if p == n {
-        return Number::Is(w * UNIT);
+        return Some(w * UNIT);
     }
     let q = p + 1;
-    let Number::Is(f) = digits::digits(&text[q..], DECIMALS) else {
-        return Number::No;
+    let Some(f) = digits::digits(&text[q..], DECIMALS) else {
+        return None;
     };
-    Number::Is(w * UNIT + f * scale(n - q))
+    Some(w * UNIT + f * scale(n - q))
 }
 
 // An amount without a minus.
@@ -87,22 +79,22 @@ fn below(m: u64) -> i64
 }
 
 // Tag 270: an optional minus, then an amount.
-pub fn read(text: &[u8]) -> Priced
+pub fn read(text: &[u8]) -> Option<i64>
     ensures { result ≡ price_of text.now }
 {
     if text.len() == 0 {
-        return Priced::No;
+        return None;
     }
     if text[0] == 45 {
-        let Number::Is(m) = amount(&text[1..]) else {
-            return Priced::No;
+        let Some(m) = amount(&text[1..]) else {
+            return None;
         };
-        return Priced::Is(below(m));
+        return Some(below(m));
     }
-    let Number::Is(n) = amount(text) else {
-        return Priced::No;
+    let Some(n) = amount(text) else {
+        return None;
     };
-    Priced::Is(above(n))
+    Some(above(n))
 }
 
 // The decimals without the zeros at the end.

@@ -1,10 +1,10 @@
 -- The marked cases, from what the crates show. Assumes nothing.
+use Rattle.std.specs.Prelude.{Some}
 use mathlib.Core.Path.{◌≡◌, refl, sym, ap, ◌∙◌}
 use mathlib.Core.List.{List, [], ◌∷◌}
 use Prim.Native.Nat.{ℕ}
 use borrow.Author.Tests.{le-leb}
 use lib.ListN.{length}
-use Rattle.digits.specs.declared.Number.{Number}
 use Rattle.digits.specs.Digits.{digits_of}
 use Rattle.price.proofs.Cases as price
 use Rattle.calendar.specs.Calendar.{leap, months, days_in, days_to, year_days, days_before, is_date, day_of}
@@ -175,16 +175,16 @@ m13 :
 unfolding applied after_action after_new any_waiting look joining hit give gives count number entries_of run after take snap feed quote_of age_of millis moment_of date_of time_of clock_of minutes_of two_of digits_of is_date day_of leap months days_in days_to year_days days_before given in_row is_whole with_name lower at_end ends ended marked with_mark
 m13 = (refl, refl, refl)
 
-one_is : moment_of at_one ≡ Number.Is 64968180540000
+one_is : moment_of at_one ≡ Some 64968180540000
 unfolding moment_of date_of time_of clock_of minutes_of two_of digits_of is_date day_of leap months days_in days_to year_days days_before
 one_is = refl
 
 m13_heard : HeardAtOne
 unfolding applied after_action after_new any_waiting look joining hit give gives count number entries_of run after take snap feed given in_row is_whole with_name lower at_end ends ended marked with_mark
-m13_heard xs e = one_is ∙ sym (ap (λ (c : Channel). Number.Is c.board.heard) (holds_heard xs e).same)
+m13_heard xs e = one_is ∙ sym (ap (λ (c : Channel). Some c.board.heard) (holds_heard xs e).same)
 
 -- the page of that board is the message
-page_is : page_for (Number.Is 64968180540000) 7 (83 ∷ 72 ∷ 69 ∷ 68 ∷ []) (89 ∷ 65 ∷ 82 ∷ 68 ∷ []) 1 1 took.board ≡ message empty_book_bytes
+page_is : page_for (Some 64968180540000) 7 (83 ∷ 72 ∷ 69 ∷ 68 ∷ []) (89 ∷ 65 ∷ 82 ∷ 68 ∷ []) 1 1 took.board ≡ message empty_book_bytes
 unfolding applied after_action after_new any_waiting look joining hit give gives count number entries_of run after take snap feed arguments_fine is_id given in_row is_whole with_name lower at_end ends ended marked with_mark
 page_is = ap message the_message
 

@@ -1,4 +1,5 @@
 -- A quote that is given is dated. Assumes nothing.
+use Rattle.std.specs.Prelude.{Option, Some, None}
 use mathlib.Core.Path.{◌≡◌, refl, sym, ap, ◌∙◌}
 use mathlib.Core.Bool.{Bool, true, false, cond, ◌&&◌, true≢false}
 use mathlib.Core.List.{List, map}
@@ -9,7 +10,6 @@ use lib.IntN.{pos}
 use lib.Signed.{lt_z}
 use lib.ListN.{length}
 use lib.Seq.{sets}
-use Rattle.digits.specs.declared.Number.{Number}
 use Rattle.moment.specs.Moments.{moment_of}
 use Rattle.moment.specs.Ages.{age_of}
 use Rattle.board.specs.Board.{Board, look, at}
@@ -37,7 +37,7 @@ use Rattle.promises.proofs.Heard.{Heard, heard_after}
 -- ---- what an answer 0 says
 pub record Given (i : ℕ) (now : List ℕ) (limit : ℕ) (b : Board) (q : Quoted) : Type 0 where
   pub time : ℕ
-  pub asked : moment_of now ≡ Number.Is time
+  pub asked : moment_of now ≡ Some time
   pub live : (at i b).waiting ≡ false
   pub some : eqb b.H 0 ≡ false
   pub since : lt_z (age_of time b.heard) (pos 0) ≡ false
@@ -47,7 +47,7 @@ pub record Given (i : ℕ) (now : List ℕ) (limit : ℕ) (b : Board) (q : Quote
 no : {A : Type 0} {n : ℕ} → suc n ≡ 0 → A
 no e = absurd (omega (arith, e))
 
-module _ (i : ℕ) (now : List ℕ) (limit : ℕ) (b : Board) (t : ℕ) (m : moment_of now ≡ Number.Is t) where
+module _ (i : ℕ) (now : List ℕ) (limit : ℕ) (b : Board) (t : ℕ) (m : moment_of now ≡ Some t) where
   at_time : quote_number (quote_at i t limit b) ≡ 0 → Given i now limit b (quote_at i t limit b)
   at_time = go (leb (length b.insts) i) (at i b).waiting (eqb b.H 0) (lt_z (age_of t b.heard) (pos 0)) (lt_z (pos (limit * 1000)) (age_of t b.heard)) refl refl refl refl
     where
@@ -70,14 +70,14 @@ given_by id now limit b = go (moment_of now) refl
     i : ℕ
     i = look id b.insts
 
-    fine : (z : Bool) (t : ℕ) → moment_of now ≡ Number.Is t → quote_number (cond z (quote_at i t limit b) Quoted.BadArgument) ≡ 0
+    fine : (z : Bool) (t : ℕ) → moment_of now ≡ Some t → quote_number (cond z (quote_at i t limit b) Quoted.BadArgument) ≡ 0
         → Given i now limit b (cond z (quote_at i t limit b) Quoted.BadArgument)
     fine true t m e = at_time i now limit b t m e
     fine false t m e = no e
 
-    go : (n : Number) → moment_of now ≡ n → quote_number (at_now n id limit b) ≡ 0 → Given i now limit b (at_now n id limit b)
-    go Number.No m e = no e
-    go (Number.Is t) m e = fine (id_fine id && leb limit most_limit) t m e
+    go : (n : Option ℕ) → moment_of now ≡ n → quote_number (at_now n id limit b) ≡ 0 → Given i now limit b (at_now n id limit b)
+    go None m e = no e
+    go (Some t) m e = fine (id_fine id && leb limit most_limit) t m e
 
 pub given_of : (id : ℕ) (now : List ℕ) (limit : ℕ) (out xs : List ℕ) → quote_answer id now limit out xs ≡ 0
     → Given (look id (board_at xs).insts) now limit (board_at xs) (quote_of id now limit (board_at xs))

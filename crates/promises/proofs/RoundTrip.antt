@@ -1,4 +1,5 @@
 -- A book we write as a snapshot reads back as the same book. Assumes nothing.
+use Rattle.std.specs.Prelude.{Option, Some, None}
 use mathlib.Core.Path.{◌≡◌, refl, sym, ap, ◌∙◌, subst}
 use mathlib.Core.Bool.{Bool, true, false, cond, ◌&&◌}
 use mathlib.Core.List.{List}
@@ -7,7 +8,6 @@ use native.Mathlib.Omega.{arith}
 use borrow.Author.Tests.{leb-true, leb-false}
 use lib.Dec.{leb}
 use lib.ListN.{length, take}
-use Rattle.digits.specs.declared.Number.{Number}
 use Rattle.digits.proofs.Width.{both}
 use Rattle.moment.specs.Moments.{moment_of}
 use Rattle.moment.proofs.Bounds.{moment_lt}
@@ -68,7 +68,7 @@ module _ (id : ℕ) (sender target : List ℕ) (k m : ℕ) (time xs : List ℕ) 
   pub record Paged (bytes : List ℕ) : Type 0 where
     pub store : sound xs ≡ true
     pub sent : ℕ
-    pub read : moment_of time ≡ Number.Is sent
+    pub read : moment_of time ≡ Some sent
     pub fine : arguments_fine id sender target k m ≡ true
     pub followed : leb (length b.insts) i ≡ false
     pub same : snapshot_bytes b.depth (letter sender target k m sent) id b.H (at i b).book ≡ bytes
@@ -144,7 +144,7 @@ module _ (id : ℕ) (sender target : List ℕ) (k m : ℕ) (time xs : List ℕ) 
   unfolding sent_page
   at_page out n = go (sound xs) (moment_of time) refl refl
     where
-      live : (t : ℕ) → sound xs ≡ true → moment_of time ≡ Number.Is t → arguments_fine id sender target k m ≡ true → leb (length b.insts) i ≡ false
+      live : (t : ℕ) → sound xs ≡ true → moment_of time ≡ Some t → arguments_fine id sender target k m ≡ true → leb (length b.insts) i ≡ false
           → (w : Bool) → page_answer (cond w (refusal 21) (message (snapshot_bytes b.depth (letter sender target k m t) id b.H (at i b).book))) out ≡ 256 * n
           → SameBook xs id k m time (take n (page_out (cond w (refusal 21) (message (snapshot_bytes b.depth (letter sender target k m t) id b.H (at i b).book))) out))
       live t s r f l true e = no_message 21 n (omega arith) (omega arith) e
@@ -152,23 +152,23 @@ module _ (id : ℕ) (sender target : List ℕ) (k m : ℕ) (time xs : List ℕ) 
           from_message (snapshot_bytes b.depth (letter sender target k m t) id b.H (at i b).book) out n
           (record { store = s; sent = t; read = r; fine = f; followed = l; same = refl }) e
 
-      there : (t : ℕ) → sound xs ≡ true → moment_of time ≡ Number.Is t → arguments_fine id sender target k m ≡ true → (z : Bool) → leb (length b.insts) i ≡ z
+      there : (t : ℕ) → sound xs ≡ true → moment_of time ≡ Some t → arguments_fine id sender target k m ≡ true → (z : Bool) → leb (length b.insts) i ≡ z
           → page_answer (cond z (refusal 20) (cond (at i b).waiting (refusal 21) (message (snapshot_bytes b.depth (letter sender target k m t) id b.H (at i b).book)))) out ≡ 256 * n
           → SameBook xs id k m time (take n (page_out (cond z (refusal 20) (cond (at i b).waiting (refusal 21) (message (snapshot_bytes b.depth (letter sender target k m t) id b.H (at i b).book)))) out))
       there t s r f true l e = no_message 20 n (omega arith) (omega arith) e
       there t s r f false l e = live t s r f l (at i b).waiting e
 
-      fine : (t : ℕ) → sound xs ≡ true → moment_of time ≡ Number.Is t → (z : Bool) → arguments_fine id sender target k m ≡ z
+      fine : (t : ℕ) → sound xs ≡ true → moment_of time ≡ Some t → (z : Bool) → arguments_fine id sender target k m ≡ z
           → page_answer (cond z (page_at i (letter sender target k m t) id b) (refusal 18)) out ≡ 256 * n
           → SameBook xs id k m time (take n (page_out (cond z (page_at i (letter sender target k m t) id b) (refusal 18)) out))
       fine t s r true f e = there t s r f (leb (length b.insts) i) refl e
       fine t s r false f e = no_message 18 n (omega arith) (omega arith) e
 
-      go : (s : Bool) (t : Number) → sound xs ≡ s → moment_of time ≡ t → page_answer (cond s (page_for t id sender target k m b) (refusal 17)) out ≡ 256 * n
+      go : (s : Bool) (t : Option ℕ) → sound xs ≡ s → moment_of time ≡ t → page_answer (cond s (page_for t id sender target k m b) (refusal 17)) out ≡ 256 * n
           → SameBook xs id k m time (take n (page_out (cond s (page_for t id sender target k m b) (refusal 17)) out))
       go false t s r e = no_message 17 n (omega arith) (omega arith) e
-      go true Number.No s r e = no_message 18 n (omega arith) (omega arith) e
-      go true (Number.Is t) s r e = fine t s r (arguments_fine id sender target k m) refl e
+      go true None s r e = no_message 18 n (omega arith) (omega arith) e
+      go true (Some t) s r e = fine t s r (arguments_fine id sender target k m) refl e
 
 pub round_trip : RoundTrip
 unfolding send_answer send_out

@@ -1,8 +1,8 @@
 -- What the walk of a recording promises of the other calls. Assumes nothing.
+use Rattle.std.specs.Prelude.{Option, Some, None}
 use mathlib.Core.Path.{◌≡◌, refl, sym, ap, ◌∙◌}
 use mathlib.Core.Bool.{Bool, true, false, cond, not, false≢true}
 use mathlib.Core.List.{List, [], ◌∷◌}
-use mathlib.Core.Option.{Option, none, some}
 use Prim.Native.Nat.{ℕ, ◌+◌, ◌*◌, ◌≤◌, ◌<◌}
 use native.Mathlib.Omega.{arith}
 use native.Mathlib.Nat.{mod-eq_of_lt, add-mul-mod_self_left}
@@ -53,8 +53,8 @@ framed_alike depth s Framed.BadType b = refl
 framed_alike depth s (Framed.Is kind from) b = body (typed_as depth kind (body_of s)) refl
   where
     body : (o : Option Message) → typed_as depth kind (body_of s) ≡ o → true ≡ not (refused_by (feed (or_bad_fields o) b).answer)
-    body none e = refl
-    body (some m) e = rw (read_small m b (typed_well (body_of s) depth kind e).read)
+    body None e = refl
+    body (Some m) e = rw (read_small m b (typed_well (body_of s) depth kind e).read)
 
 passing : (bytes xs : List ℕ) → sound xs ≡ true → passes (frame_of bytes) ≡ not (refused_by (feed_answer bytes xs))
 unfolding feed_answer fed message_in

@@ -1,10 +1,9 @@
 -- The marked cases of document 01, M1 to M14, with M1, M2 and M4 as document 02, K6 has them, in one statement over the definitions
 -- that the contracts cite.
+use Rattle.std.specs.Prelude.{Some, None}
 use Rattle.std.specs.Prelude.{◌≡◌, List, [], ◌∷◌, ℕ, ◌%◌, ◌≤◌, pos, negsuc, length, take}
 use Rattle.std.proofs.lemmas.List.Edits.{sets}
-use Rattle.digits.specs.declared.Number.{Number}
 use Rattle.price.specs.Price.{price_of}
-use Rattle.price.specs.declared.Priced.{Priced}
 use Rattle.moment.specs.Moments.{date_of, moment_of}
 use Rattle.frame.specs.Frames.{total}
 use Rattle.book.specs.Rules.{leaves, breach, after_new, after_thru, after_from}
@@ -54,7 +53,7 @@ at_one = on_the_day (49 ∷ 51 ∷ 58 ∷ 48 ∷ 48 ∷ 58 ∷ 48 ∷ 48 ∷ 46 
 
 -- M13: what is heard is that moment; with a limit of 30, a quote of 7 at a time of that day is answered n.
 abbrev pub HeardAtOne : Type 0
-HeardAtOne = (xs : List ℕ) → open_answer 0 (7 ∷ []) xs ≡ 0 → moment_of at_one ≡ Number.Is (board_at (heard_first xs)).heard
+HeardAtOne = (xs : List ℕ) → open_answer 0 (7 ∷ []) xs ≡ 0 → moment_of at_one ≡ Some (board_at (heard_first xs)).heard
 
 abbrev pub QuotedWith : ℕ → List ℕ → Type 0
 QuotedWith n time =
@@ -69,22 +68,22 @@ Writes bytes =
 
 pub record MarkedCases : Type 0 where
   -- 24.01 is 2401000000
-  pub m1 : price_of (50 ∷ 52 ∷ 46 ∷ 48 ∷ 49 ∷ []) ≡ Priced.Is (pos 2401000000)
+  pub m1 : price_of (50 ∷ 52 ∷ 46 ∷ 48 ∷ 49 ∷ []) ≡ Some (pos 2401000000)
   -- -0.5 is -50000000
-  pub m2 : price_of (45 ∷ 48 ∷ 46 ∷ 53 ∷ []) ≡ Priced.Is (negsuc 49999999)
+  pub m2 : price_of (45 ∷ 48 ∷ 46 ∷ 53 ∷ []) ≡ Some (negsuc 49999999)
   -- -0 is 0
-  pub m3 : price_of (45 ∷ 48 ∷ []) ≡ Priced.Is (pos 0)
+  pub m3 : price_of (45 ∷ 48 ∷ []) ≡ Some (pos 0)
   -- 1. and 9 decimals refused, alone and in a message
-  pub m4_point : price_of (49 ∷ 46 ∷ []) ≡ Priced.No
-  pub m4_many : price_of (49 ∷ 46 ∷ 49 ∷ 50 ∷ 51 ∷ 52 ∷ 53 ∷ 54 ∷ 55 ∷ 56 ∷ 57 ∷ []) ≡ Priced.No
+  pub m4_point : price_of (49 ∷ 46 ∷ []) ≡ None
+  pub m4_many : price_of (49 ∷ 46 ∷ 49 ∷ 50 ∷ 51 ∷ 52 ∷ 53 ∷ 54 ∷ 55 ∷ 56 ∷ 57 ∷ []) ≡ None
   pub m4_point_read : message_in 0 point_alone ≡ refused BadFields
   pub m4_many_read : message_in 0 too_many_decimals ≡ refused BadFields
   -- and 8 read
   pub m4_eight_read : message_in 0 eight_decimals ≡ eight_says
   -- 20240229 good, 20250229 and 19000229 not
-  pub m5_good : date_of (50 ∷ 48 ∷ 50 ∷ 52 ∷ 48 ∷ 50 ∷ 50 ∷ 57 ∷ []) ≡ Number.Is 739310
-  pub m5_2025 : date_of (50 ∷ 48 ∷ 50 ∷ 53 ∷ 48 ∷ 50 ∷ 50 ∷ 57 ∷ []) ≡ Number.No
-  pub m5_1900 : date_of (49 ∷ 57 ∷ 48 ∷ 48 ∷ 48 ∷ 50 ∷ 50 ∷ 57 ∷ []) ≡ Number.No
+  pub m5_good : date_of (50 ∷ 48 ∷ 50 ∷ 52 ∷ 48 ∷ 50 ∷ 50 ∷ 57 ∷ []) ≡ Some 739310
+  pub m5_2025 : date_of (50 ∷ 48 ∷ 50 ∷ 53 ∷ 48 ∷ 50 ∷ 50 ∷ 57 ∷ []) ≡ None
+  pub m5_1900 : date_of (49 ∷ 57 ∷ 48 ∷ 48 ∷ 48 ∷ 50 ∷ 50 ∷ 57 ∷ []) ≡ None
   -- a,b,c with new x at 2: a,x,b,c
   pub m6 : (a b c x : Entry) → after_new (a ∷ b ∷ c ∷ []) 2 x ≡ leaves (a ∷ x ∷ b ∷ c ∷ [])
   -- a,b,c thru 2: c

@@ -1,9 +1,9 @@
 -- Never quote on a number you cannot date: for one exchange stream and an instrument that it never breaks, a quote that is given is
 -- place 1 of each side of the stream's book at our last number, dated by the stream's message of that number, and no older than the limit.
+use Rattle.std.specs.Prelude.{Some}
 use Rattle.std.specs.Prelude.{◌≡◌, false, List, ℕ, suc, ◌*◌, pos}
 use Rattle.std.specs.Int.Signed.{lt_z}
 use Rattle.std.proofs.lemmas.List.Edits.{sets}
-use Rattle.digits.specs.declared.Number.{Number}
 use Rattle.moment.specs.Moments.{moment_of}
 use Rattle.moment.specs.Ages.{age_of}
 use Rattle.book.specs.Rules.{Lists, leaves}
@@ -26,7 +26,7 @@ pub record AsOf (depth : ℕ) (stream : List (List ℕ)) (d : ℕ) (now : List �
   pub streamed : book_at (read_in depth stream) d (suc k) ≡ leaves book
   -- its age lies in 0 to the limit, in milliseconds
   pub time : ℕ
-  pub asked : moment_of now ≡ Number.Is time
+  pub asked : moment_of now ≡ Some time
   pub since : lt_z (age_of time heard) (pos 0) ≡ false
   pub within : lt_z (pos (limit * 1000)) (age_of time heard) ≡ false
 

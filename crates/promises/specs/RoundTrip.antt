@@ -1,6 +1,6 @@
 -- A book we write as a snapshot reads back as the same book: over what the exported writing and feeding say.
+use Rattle.std.specs.Prelude.{Some}
 use Rattle.std.specs.Prelude.{◌≡◌, true, List, ℕ, ◌*◌, take}
-use Rattle.digits.specs.declared.Number.{Number}
 use Rattle.moment.specs.Moments.{moment_of}
 use Rattle.message.specs.Message.{snapshot}
 use Rattle.board.specs.Board.{out}
@@ -22,7 +22,7 @@ pub record TakenBy (xs : List ℕ) (id : ℕ) (bytes ys : List ℕ) : Type 0 whe
 -- What the bytes are that a writing of the store xs leaves.
 pub record SameBook (xs : List ℕ) (id k m : ℕ) (time bytes : List ℕ) : Type 0 where
   pub sent : ℕ
-  pub at_time : moment_of time ≡ Number.Is sent
+  pub at_time : moment_of time ≡ Some sent
   -- a W for that instrument with 34 = k, 911 = m, 369 = H and exactly the book's entries in order
   pub message :
       message_in (board_at xs).depth bytes

@@ -1,4 +1,5 @@
 -- A quote's tests as the code makes them. Assumes nothing.
+use Rattle.std.specs.Prelude.{Some, None}
 use mathlib.Core.Path.{◌≡◌, refl, ap, ◌∙◌}
 use mathlib.Core.Bool.{true, false}
 use mathlib.Core.List.{List}
@@ -10,7 +11,6 @@ use Rattle.heading.specs.Marks.{marked}
 use Rattle.board.specs.Board.{Inst, Board, at, look}
 use Rattle.board.specs.Ranges.{id_fine}
 use Rattle.board.specs.Sound.{heard_fine}
-use Rattle.digits.specs.declared.Number.{Number}
 use Rattle.moment.specs.Moments.{moments, moment_of}
 use Rattle.book.specs.Canonical.{held_in}
 use Rattle.cells.specs.Cells.{side_at}
@@ -69,11 +69,11 @@ heard_held n heard z h = ltb-true heard moments (rw (ne_eqb n 0 z) at h)
 
 -- the arguments' tests
 module _ (id time limit : ℕ) (b : Board) (text : List ℕ) where
-  pub no_moment : moment_of text ≡ Number.No → quote_of id text limit b ≡ Quoted.BadArgument
+  pub no_moment : moment_of text ≡ None → quote_of id text limit b ≡ Quoted.BadArgument
   unfolding quote_of
   no_moment e = rw e
 
-  module _ (read : moment_of text ≡ Number.Is time) where
+  module _ (read : moment_of text ≡ Some time) where
     pub no_id : id_fine id ≡ false → quote_of id text limit b ≡ Quoted.BadArgument
     unfolding quote_of
     no_id e = rw (read, e)

@@ -1,7 +1,7 @@
 -- A dated quote (document 01, "Quote and writing").
+use Rattle.std.specs.Prelude.{Option, Some, None}
 use Rattle.std.specs.Prelude.{ℕ, ◌*◌, List, [], ◌∷◌, cond, ◌&&◌, leb, eqb, ℤ, pos, length}
 use Rattle.std.specs.Int.Signed.{lt_z}
-use Rattle.digits.specs.declared.Number.{Number}
 use Rattle.moment.specs.Moments.{moment_of}
 use Rattle.moment.specs.Ages.{age_of}
 use Rattle.book.specs.declared.Entry.{Entry}
@@ -36,9 +36,9 @@ quote_at i now limit b =
     (cond (eqb b.H 0) Quoted.NothingHeard (aged_by (age_of now b.heard) limit (given b (at i b)))))
 
 -- An argument outside its range is 18: a SecurityID, now, a limit of 0 to 86,400 seconds.
-abbrev pub at_now : Number → ℕ → ℕ → Board → Quoted
-at_now Number.No id limit b = Quoted.BadArgument
-at_now (Number.Is now) id limit b =
+abbrev pub at_now : Option ℕ → ℕ → ℕ → Board → Quoted
+at_now None id limit b = Quoted.BadArgument
+at_now (Some now) id limit b =
     cond (id_fine id && leb limit most_limit) (quote_at (look id b.insts) now limit b) Quoted.BadArgument
 
 unfoldable pub quote_of : ℕ → List ℕ → ℕ → Board → Quoted

@@ -10,7 +10,6 @@ ghost use Rattle.quote.specs.Quotes.{most_limit, top_of, aged_by, quote_at, quot
 ghost use Rattle.quote.specs.Ready.{Ready};
 
 use book::Entry;
-use digits::Number;
 use heading::Heading;
 
 // Place 1 of a side, or that the side is empty.
@@ -125,7 +124,7 @@ pub fn quote_for(store: &[u64], h: Heading, id: u64, time: &[u8], limit: u64) ->
     requires { Ready (st h store.now) }
     ensures { result ≡ quote_of id time.now limit (board_in (st h store.now)) }
 {
-    let Number::Is(t) = moment::moment(time) else {
+    let Some(t) = moment::moment(time) else {
         return Quoted::BadArgument;
     };
     if !book::is_id(id) {

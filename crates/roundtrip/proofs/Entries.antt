@@ -1,4 +1,5 @@
 -- An entry that is written is the entry that is read. Assumes nothing.
+use Rattle.std.specs.Prelude.{Some}
 use mathlib.Core.Path.{◌≡◌, refl, sym, ap}
 use mathlib.Core.Bool.{Bool, true, false}
 use mathlib.Core.List.{List, [], ◌∷◌, ◌++◌}
@@ -6,7 +7,6 @@ use Prim.Native.Nat.{ℕ, ◌+◌, ◌*◌, ◌/◌, ◌%◌, ◌^◌, ◌≤◌
 use native.Mathlib.Omega.{arith}
 use lib.Dec.{leb, eqb}
 use Rattle.digits.specs.Digits.{ranged_of}
-use Rattle.digits.specs.declared.Number.TheVariants.{Is}
 use Rattle.digits.proofs.Ranges.{ranged_back}
 use Rattle.text.specs.Text.{decimal}
 use Rattle.text.proofs.Written.{whole_back}
@@ -24,7 +24,7 @@ use Rattle.line.specs.Entries.{entry_fields}
 use Rattle.roundtrip.proofs.Fine.{Fine, By}
 
 -- a number in its range, in its shortest form
-pub number_back : (w lo hi n : ℕ) → 1 ≤ w → w ≤ 18 → n < 10 ^ w → lo ≤ n → n ≤ hi → ranged_of w lo hi (decimal n) ≡ Is n
+pub number_back : (w lo hi n : ℕ) → 1 ≤ w → w ≤ 18 → n < 10 ^ w → lo ≤ n → n ≤ hi → ranged_of w lo hi (decimal n) ≡ Some n
 number_back w lo hi n p q r l h = ranged_back w lo hi (decimal n) (whole_back w n p q r) l h
 
 -- a moment from its day and its time of day

@@ -1,8 +1,8 @@
 -- The entries that are written are the entries that are read, and they are the book. Assumes nothing.
+use Rattle.std.specs.Prelude.{Some}
 use mathlib.Core.Path.{◌≡◌, refl, ap, ◌∙◌}
 use mathlib.Core.Bool.{true, false}
 use mathlib.Core.List.{List, [], ◌∷◌, ◌++◌, append-nil, append_assoc}
-use mathlib.Core.Option.{some}
 use Prim.Native.Nat.{ℕ, suc, ◌+◌, ◌≤◌}
 use native.Mathlib.Omega.{arith}
 use borrow.Author.Tests.{eq-eqb}
@@ -59,15 +59,15 @@ module _ (depth sort : ℕ) where
 -- ---- what they say
 module _ (depth who : ℕ) where
   bids_said : (place : ℕ) (es : List Entry) (r : List (List Field)) (us : List Update) → All (λ e. entry_fine depth e ≡ true) es → 1 ≤ place
-      → place + length es ≤ 65535 → each (entry_in_w depth who) r ≡ some us
-      → each (entry_in_w depth who) (entries_from depth 48 place es ++ r) ≡ some (new_from who 0 place es ++ us)
+      → place + length es ≤ 65535 → each (entry_in_w depth who) r ≡ Some us
+      → each (entry_in_w depth who) (entries_from depth 48 place es ++ r) ≡ Some (new_from who 0 place es ++ us)
   unfolding each entries_from new_from
   bids_said place [] r us h l k q = q
   bids_said place (e ∷ es) r us h l k q =
       rw (bid_back depth who place e l (omega arith) (fine_is depth e h.0), bids_said (place + 1) es r us h.1 (omega arith) (omega arith) q)
 
   offers_said : (place : ℕ) (es : List Entry) → All (λ e. entry_fine depth e ≡ true) es → 1 ≤ place → place + length es ≤ 65535
-      → each (entry_in_w depth who) (entries_from depth 49 place es) ≡ some (new_from who 1 place es)
+      → each (entry_in_w depth who) (entries_from depth 49 place es) ≡ Some (new_from who 1 place es)
   unfolding each entries_from new_from
   offers_said place [] h l k = refl
   offers_said place (e ∷ es) h l k =
@@ -143,7 +143,7 @@ module _ (depth who : ℕ) (b : Lists) where
       entries_tidy depth 48 1 b.bids o (rw (← append-nil o) (entries_tidy depth 49 1 b.offers [] refl))
 
   pub group_said : All (λ e. entry_fine depth e ≡ true) b.bids → All (λ e. entry_fine depth e ≡ true) b.offers → length b.bids ≤ 20
-      → length b.offers ≤ 20 → each (entry_in_w depth who) entries ≡ some (new_of who b)
+      → length b.offers ≤ 20 → each (entry_in_w depth who) entries ≡ Some (new_of who b)
   group_said fb fo lb lo =
       bids_said depth who 1 b.bids (entries_from depth 49 1 b.offers) (new_from who 1 1 b.offers) fb (omega arith) (omega arith)
       (offers_said depth who 1 b.offers fo (omega arith) (omega arith))

@@ -1,8 +1,8 @@
 -- What stands before the entries is what is read. Assumes nothing.
+use Rattle.std.specs.Prelude.{Some}
 use mathlib.Core.Path.{◌≡◌, refl}
 use mathlib.Core.Bool.{true}
 use mathlib.Core.List.{List, [], ◌∷◌, ◌++◌}
-use mathlib.Core.Option.{some}
 use Prim.Native.Nat.{ℕ, ◌+◌}
 use native.Mathlib.Omega.{arith}
 use borrow.Author.Tests.{eq-eqb}
@@ -49,7 +49,7 @@ module _ (depth : ℕ) (l : Letter) (who H : ℕ) (b : Lists) (r : InRange depth
   unfolding tidy has stands up_to
   head_tidy = refl
 
-  pub head_back : head_of (lookup (up_to 268 body)) ≡ some (head_said l who H)
+  pub head_back : head_of (lookup (up_to 268 body)) ≡ Some (head_said l who H)
   unfolding head_of instrument_of bvmf lookup up_to
   head_back =
       rw (
@@ -68,7 +68,7 @@ module _ (depth : ℕ) (l : Letter) (who H : ℕ) (b : Lists) (r : InRange depth
   unfolding lookup
   count_read_lem = refl
 
-  pub group_back : group_of 269 entry_w body ≡ some (entries depth who b)
+  pub group_back : group_of 269 entry_w body ≡ Some (entries depth who b)
   unfolding group_of tidy
   group_back =
       let n = length b.bids + length b.offers in

@@ -1,7 +1,7 @@
 -- A book written as a snapshot reads back as the same book. Assumes nothing.
+use Rattle.std.specs.Prelude.{Some}
 use mathlib.Core.Path.{◌≡◌, refl}
 use mathlib.Core.List.{List, [], ◌∷◌}
-use mathlib.Core.Option.{some}
 use Prim.Native.Nat.{ℕ}
 use native.Mathlib.Omega.{arith}
 use lib.ListN.{length, take}
@@ -31,7 +31,7 @@ module _ (depth : ℕ) (l : Letter) (who H : ℕ) (b : Lists) (r : InRange depth
       frame_back 87 (body depth l who H b r) refl (both (fair (field 35 (87 ∷ []))) (all_fair (body depth l who H b r)) (fields_run depth l who H b r).fair).1
       (omega (arith, (page_sized depth l who H b r).most))
 
-  page_said : snapshot_of depth (body depth l who H b r) ≡ some (snapshot (head_said l who H) (new_of who b))
+  page_said : snapshot_of depth (body depth l who H b r) ≡ Some (snapshot (head_said l who H) (new_of who b))
   unfolding snapshot_of
   page_said =
       rw (

@@ -1,4 +1,6 @@
 -- Every value that is written is not empty, has no SOH, and has so many bytes. Assumes nothing.
+use Rattle.std.specs.Prelude.{Some}
+use Rattle.orderid.specs.OrderIds.{order_id}
 use mathlib.Core.Path.{◌≡◌, refl}
 use mathlib.Core.Bool.{Bool, true, false, cond}
 use mathlib.Core.List.{List, [], ◌∷◌}
@@ -16,7 +18,6 @@ use Rattle.price.proofs.Back.{digits_free, kept}
 use Rattle.moment.specs.Moments.{date_text, time_text, moment_text}
 use Rattle.moment.proofs.Texts.{length_date, length_time, length_moment, date_free, time_free, moment_free}
 use Rattle.orderid.specs.OrderIds.{is_id, id_of, word_from, id_text, id_sound}
-use Rattle.orderid.specs.declared.OrderId.TheVariants.{Is}
 use Rattle.orderid.proofs.Back.{was_read_lem, text_back, id_some, id_most, id_free}
 use Rattle.chain.proofs.Ahead.{free_append}
 
@@ -84,7 +85,7 @@ text_moment m = exactly 21 (moment_text m) (length_moment m) (omega arith) (mome
 pub text_id : (a b : ℕ) → id_sound a b ≡ true → Text 1 16 (id_text a b)
 text_id a b h = record { some = id_some a b h; least = id_some a b h; most = id_most a b; free = id_free 1 a b (omega arith) }
 
-read_name : (v : List ℕ) → is_id v ≡ true → id_of v ≡ Is (word_from 0 (take 8 v)) (word_from 0 (drop 8 v))
+read_name : (v : List ℕ) → is_id v ≡ true → id_of v ≡ Some (order_id (word_from 0 (take 8 v)) (word_from 0 (drop 8 v)))
 unfolding id_of
 read_name v h = rw h
 

@@ -1,4 +1,5 @@
 -- A writing's tests as the code makes them, and the bound of its answer.
+use Rattle.std.specs.Prelude.{Some, None}
 use mathlib.Core.Path.{◌≡◌, sym, ap, ◌∙◌}
 use mathlib.Core.Bool.{Bool, true, false, cond}
 use mathlib.Core.List.{List}
@@ -8,7 +9,6 @@ use lib.Dec.{leb}
 use lib.ListN.{length}
 use lib.Seq.{length-take-le}
 use borrow.Author.Tests.{le-leb, lt-leb}
-use Rattle.digits.specs.declared.Number.{Number}
 use Rattle.moment.specs.Moments.{moment_of}
 use Rattle.book.specs.declared.Side.{Side}
 use Rattle.book.specs.declared.Book.{Book}
@@ -79,11 +79,11 @@ module _ (id : ℕ) (sender target : List ℕ) (k m : ℕ) (time xs : List ℕ) 
   unsound s = rw s
 
   module _ (s : sound xs ≡ true) where
-    pub no_time : moment_of time ≡ Number.No → sent_page id sender target k m time xs ≡ refusal 18
+    pub no_time : moment_of time ≡ None → sent_page id sender target k m time xs ≡ refusal 18
     unfolding sent_page
     no_time e = rw (s, e)
 
-    module _ (t : ℕ) (read : moment_of time ≡ Number.Is t) where
+    module _ (t : ℕ) (read : moment_of time ≡ Some t) where
       pub bad : arguments_fine id sender target k m ≡ false → sent_page id sender target k m time xs ≡ refusal 18
       unfolding sent_page
       bad e = rw (s, read, e)

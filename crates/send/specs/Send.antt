@@ -1,6 +1,6 @@
 -- A writing (document 01, "Quote and writing"): what a snapshot of an instrument of a store answers, and the bytes that it leaves.
+use Rattle.std.specs.Prelude.{Option, Some, None}
 use Rattle.std.specs.Prelude.{◌≡◌, Bool, cond, ◌&&◌, List, ℕ, ◌+◌, ◌*◌, leb, length}
-use Rattle.digits.specs.declared.Number.{Number}
 use Rattle.moment.specs.Moments.{moment_of}
 use Rattle.orderid.specs.OrderIds.{is_id}
 use Rattle.board.specs.Board.{Board, look, at}
@@ -32,9 +32,9 @@ page_at i l id b =
     (cond (at i b).waiting (refusal 21) (message (snapshot_bytes b.depth l id b.H (at i b).book)))
 
 -- An argument outside its range is 18; the time is shaped as tag 52.
-abbrev pub page_for : Number → ℕ → List ℕ → List ℕ → ℕ → ℕ → Board → Page
-page_for Number.No id sender target k m b = refusal 18
-page_for (Number.Is time) id sender target k m b =
+abbrev pub page_for : Option ℕ → ℕ → List ℕ → List ℕ → ℕ → ℕ → Board → Page
+page_for None id sender target k m b = refusal 18
+page_for (Some time) id sender target k m b =
     cond (arguments_fine id sender target k m) (page_at (look id b.insts) (letter sender target k m time) id b) (refusal 18)
 
 -- 17 comes first.

@@ -12,7 +12,6 @@ ghost use Rattle.writer.specs.Writing.{page_of, written_of, out_after};
 ghost use Rattle.send.specs.Send.{arguments_fine, page_at, written_number, page_answer, page_out, Sent};
 
 use book::Book;
-use digits::Number;
 
 // A loop has at most 16 messages.
 const MOST_LOOP: u64 = 16;
@@ -114,7 +113,7 @@ pub fn write(
     if !sound::sound(store) {
         return store::BAD_STORE;
     }
-    let Number::Is(t) = moment::moment(time) else {
+    let Some(t) = moment::moment(time) else {
         return store::BAD_ARGUMENT;
     };
     if !arguments_fine(id, sender, target, k, m) {

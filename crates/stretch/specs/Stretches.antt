@@ -1,7 +1,7 @@
 -- Where a message is taken in a recording (document 02, K12). Assumes nothing.
+use Rattle.std.specs.Prelude.{Option, Some, None}
 use Rattle.std.specs.Prelude.{ℕ, ◌+◌, ◌≤◌, ◌≡◌, List, Bool, true, false, cond, ◌&&◌, leb, length, take, drop}
 use Rattle.digits.specs.Digits.{whole_of}
-use Rattle.digits.specs.declared.Number.{Number}
 use Rattle.chain.specs.Places.{part, field_at}
 use Rattle.chain.specs.declared.Step.{Step}
 use Rattle.frame.specs.Frames.{equal, frame_of}
@@ -30,9 +30,9 @@ taken rec p n = Taken (drop p rec) n
 
 -- ---- the stretch that tag 9 names
 -- the bytes up to the SOH of 9, which stands at to, those that 9 counts, and the 7 of 10
-abbrev pub length_by : ℕ → Number → ℕ
-length_by to Number.No = 0
-length_by to (Number.Is v) = to + 1 + v + 7
+abbrev pub length_by : ℕ → Option ℕ → ℕ
+length_by to None = 0
+length_by to (Some v) = to + 1 + v + 7
 
 abbrev pub nine_by : List ℕ → Step → ℕ
 nine_by h Step.No = 0

@@ -8,7 +8,6 @@ ghost use Rattle.stretch.specs.Stretches.{passes, named_of, stretch_of, stretch_
 ghost use Rattle.stretch.specs.Runs.{Ends};
 
 use chain::Step;
-use digits::Number;
 use frame::Framed;
 
 // 8=FIX.4.4 and its SOH, 9= with five digits and its SOH
@@ -35,7 +34,7 @@ fn named(h: &[u8]) -> usize
     if tag != 9 {
         return 0;
     }
-    let Number::Is(count) = digits::whole(&h[from..to], 5) else {
+    let Some(count) = digits::whole(&h[from..to], 5) else {
         return 0;
     };
     to + 1 + (count as usize) + frame::TRAILER_BYTES

@@ -1,4 +1,5 @@
 -- A quote that is given begins as the summary does. Assumes nothing.
+use Rattle.std.specs.Prelude.{Option, Some, None}
 use mathlib.Core.Path.{◌≡◌, refl}
 use mathlib.Core.Bool.{Bool, true, false, cond, ◌&&◌}
 use mathlib.Core.List.{List, [], ◌∷◌, ◌++◌}
@@ -8,7 +9,6 @@ use lib.Dec.{leb, eqb}
 use lib.IntN.{pos}
 use lib.Signed.{lt_z}
 use lib.ListN.{length, take}
-use Rattle.digits.specs.declared.Number.{Number}
 use Rattle.moment.specs.Moments.{moment_of}
 use Rattle.moment.specs.Ages.{age_of}
 use Rattle.board.specs.Board.{Board, look, at}
@@ -48,9 +48,9 @@ module _ (b : Board) where
       go false false false false true e = no e
       go false false false false false e = refl
 
-  at_now_lem : (n : Number) (id limit : ℕ) → Alike (at_now n id limit b) (eqb b.H 0)
-  at_now_lem Number.No id limit e = no e
-  at_now_lem (Number.Is time) id limit e = go (id_fine id && leb limit most_limit) e
+  at_now_lem : (n : Option ℕ) (id limit : ℕ) → Alike (at_now n id limit b) (eqb b.H 0)
+  at_now_lem None id limit e = no e
+  at_now_lem (Some time) id limit e = go (id_fine id && leb limit most_limit) e
     where
       go : (t : Bool) → Alike (cond t (quote_at (look id b.insts) time limit b) Quoted.BadArgument) (eqb b.H 0)
       go true e = at_time (look id b.insts) time limit e

@@ -1,8 +1,8 @@
 -- A tag that may stand in no place stands nowhere in a body whose places are tidy; without an 8 the bytes are a chain of fields. Assumes nothing.
+use Rattle.std.specs.Prelude.{Option, Some, None}
 use mathlib.Core.Path.{◌≡◌, refl, sym, ap, ◌∙◌}
 use mathlib.Core.List.{List, [], ◌∷◌}
 use mathlib.Core.Bool.{Bool, true, false, cond, not, ◌&&◌, ◌||◌, or-true, true≢false, false≢true}
-use mathlib.Core.Option.{Option, none, some}
 use Prim.Native.Nat.{ℕ}
 use borrow.Author.Tests.{eqb-true}
 use lib.Dec.{eqb}
@@ -59,12 +59,12 @@ module _ (t : ℕ) where
         go false h k i = let d = neither (eqb f.tag t) (stands t (up_to u fs)) h in rw (d.0, i d.1 k)
 
 -- ---- no 8 among the fields from a place on: they are a chain
-pub unbroken : (s : List ℕ) (at : ℕ) → stands 8 (left s at) ≡ false → fields_of (drop at s) ≡ some (left s at)
+pub unbroken : (s : List ℕ) (at : ℕ) → stands 8 (left s at) ≡ false → fields_of (drop at s) ≡ Some (left s at)
 unbroken s at h = go (fields_of (drop at s)) refl
   where
-    go : (o : Option (List Field)) → fields_of (drop at s) ≡ o → o ≡ some (left s at)
-    go none e =
+    go : (o : Option (List Field)) → fields_of (drop at s) ≡ o → o ≡ Some (left s at)
+    go None e =
         let b = left_broken s at e in
         let z : stands 8 (left s at) ≡ true = ap (stands 8) b.1 ∙ stands_last 8 broken b.0 ∙ or-true (stands 8 b.0) in
         absurd (true≢false (sym z ∙ h))
-    go (some fs) e = ap some (sym (left_whole s at e))
+    go (Some fs) e = ap Some (sym (left_whole s at e))

@@ -1,4 +1,5 @@
 -- What is written in digits reads back. Assumes nothing.
+use Rattle.std.specs.Prelude.{Some, None}
 use mathlib.Core.Path.{◌≡◌, refl}
 use mathlib.Core.Bool.{Bool, true, false, cond, ◌&&◌}
 use mathlib.Core.List.{List, [], ◌∷◌, ◌++◌}
@@ -11,7 +12,6 @@ use lib.Dec.{leb, ltb, eqb}
 use lib.ListN.{length, get_or, set, length-append, get_or-append}
 use lib.Seq.{sets}
 use Rattle.digits.specs.Digits.{is_digit, all_digits, value, digits_of, whole_of}
-use Rattle.digits.specs.declared.Number.TheVariants.{Is, No}
 use Rattle.text.specs.Text.{fixed, width_to, width_of, decimal}
 use Rattle.text.proofs.Stores.{sets_append, set_sets_above}
 
@@ -139,7 +139,7 @@ pub digits_decimal : (n : ℕ) → all_digits (decimal n) ≡ true
 unfolding decimal
 digits_decimal n = digits_fixed (width_of n) n
 
-pub read_fixed : (w n : ℕ) → 1 ≤ w → w ≤ 18 → n < 10 ^ w → digits_of w (fixed w n) ≡ Is n
+pub read_fixed : (w n : ℕ) → 1 ≤ w → w ≤ 18 → n < 10 ^ w → digits_of w (fixed w n) ≡ Some n
 unfolding digits_of
 read_fixed w n p q h = simp (length_fixed, le-leb 1 w p, le-leb w w (omega arith), le-leb w 18 q, digits_fixed, value_fixed w n h)
 
@@ -152,20 +152,20 @@ module _ (w n : ℕ) (p : 1 ≤ w) (high : w ≤ 18) (fits : n < 10 ^ w) where
   width_in = width_le 17 n w p fits
 
   -- a number written is read back
-  pub digits_back : digits_of w (decimal n) ≡ Is n
+  pub digits_back : digits_of w (decimal n) ≡ Some n
   unfolding digits_of decimal width_of
   digits_back =
       simp (length_fixed, le-leb 1 (width_to 17 n) (width_pos 17 n), le-leb (width_to 17 n) w (width_le 17 n w p fits), le-leb w 18 high, digits_fixed, value_fixed (width_to 17 n) n (width_lt 17 n small))
 
-  pub whole_back : whole_of w (decimal n) ≡ Is n
+  pub whole_back : whole_of w (decimal n) ≡ Some n
   unfolding whole_of width_of decimal
   whole_back = go (width_to 17 n) refl
     where
-      go : (x : ℕ) → width_to 17 n ≡ x → cond (leb 2 (length (decimal n)) && eqb (get_or (decimal n) 0 0) 48) No (digits_of w (decimal n)) ≡ Is n
+      go : (x : ℕ) → width_to 17 n ≡ x → cond (leb 2 (length (decimal n)) && eqb (get_or (decimal n) 0 0) 48) None (digits_of w (decimal n)) ≡ Some n
       go zero q = absurd (omega (arith, width_pos 17 n))
       go (suc zero) q = simp (length_fixed, q, digits_one)
         where
-          digits_one : digits_of w (fixed 1 n) ≡ Is n
+          digits_one : digits_of w (fixed 1 n) ≡ Some n
           digits_one = rw q at digits_back
       go (suc (suc m)) q =
           let a : 10 ^ suc m ≤ n = width_lead 17 n m q in

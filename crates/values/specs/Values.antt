@@ -1,11 +1,9 @@
 -- The values of tags (document 01, "Fields", first paragraph): a value that is missing or out of its range is none.
+use Rattle.std.specs.Prelude.{Option, Some, None}
+use Rattle.orderid.specs.OrderIds.{order_id}
 use Rattle.std.specs.Prelude.{ℕ, ℤ, List, [], ◌∷◌, Bool, true, false, cond, ◌&&◌, eqb}
-use Rattle.std.proofs.Math.Option.{Option, none, some}
 use Rattle.digits.specs.Digits.{ranged_of}
-use Rattle.digits.specs.declared.Number.{Number}
-use Rattle.digits.specs.declared.Number.TheVariants.{Is, No}
 use Rattle.price.specs.Price.{price_of}
-use Rattle.price.specs.declared.Priced.{Priced}
 use Rattle.orderid.specs.OrderIds.{id_of}
 use Rattle.orderid.specs.declared.OrderId.{OrderId}
 use Rattle.moment.specs.Moments.{date_of, time_of, moment_of, span, join}
@@ -18,21 +16,21 @@ module _ {A : Type 0} where
   infixr 10 ◌>>=◌
   -- One value, and what it is for; without it there is nothing.
   abbrev pub ◌>>=◌ : {B : Type 0} → Option B → (B → Option A) → Option A
-  none >>= k = none
-  some v >>= k = k v
+  None >>= k = None
+  Some v >>= k = k v
 
   -- A rule that must hold.
   abbrev pub need : Bool → Option A → Option A
   need true r = r
-  need false r = none
+  need false r = None
 
 -- The values of a place by their tags; no bytes where a tag does not stand in it.
 abbrev pub Values : Type 0
 Values = ℕ → List ℕ
 
-abbrev pub number : Number → Option ℕ
-number No = none
-number (Is n) = some n
+abbrev pub number : Option ℕ → Option ℕ
+number None = None
+number (Some n) = Some n
 
 -- A whole number of at most w digits from lo to hi, the value of a tag.
 abbrev pub whole_at : ℕ → ℕ → ℕ → ℕ → Values → Option ℕ
@@ -70,55 +68,47 @@ unfoldable pub bvmf : List ℕ → Bool
 bvmf [] = true
 bvmf (b ∷ bs) = equal (b ∷ bs) (66 ∷ 86 ∷ 77 ∷ 70 ∷ [])
 
-abbrev pub identified : Number → Bool → Number
-identified No rest = No
-identified (Is id) rest = cond rest (Is id) No
+abbrev pub identified : Option ℕ → Bool → Option ℕ
+identified None rest = None
+identified (Some id) rest = cond rest (Some id) None
 
-unfoldable pub instrument_of : Values → Number
+unfoldable pub instrument_of : Values → Option ℕ
 instrument_of v = identified (ranged_of 18 1 most_id (v 48)) (equal (v 22) (56 ∷ []) && bvmf (v 207))
 
 abbrev pub instrument_at : Values → Option ℕ
 instrument_at v = number (instrument_of v)
 
 -- 269: 0 bid, 1 offer, J empty book, numbered 0, 1, 2; any other value is 3.
-unfoldable pub sort_of : List ℕ → Number
-sort_of [] = No
-sort_of (b ∷ []) = Is (cond (eqb b 48) 0 (cond (eqb b 49) 1 (cond (eqb b 74) 2 3)))
-sort_of (b ∷ c ∷ bs) = Is 3
+unfoldable pub sort_of : List ℕ → Option ℕ
+sort_of [] = None
+sort_of (b ∷ []) = Some (cond (eqb b 48) 0 (cond (eqb b 49) 1 (cond (eqb b 74) 2 3)))
+sort_of (b ∷ c ∷ bs) = Some 3
 
 abbrev pub sort_at : Values → Option ℕ
 sort_at v = number (sort_of (v 269))
 
 -- 270: a signed whole number of hundred-millionths (document 02, K6).
-abbrev pub price : Priced → Option ℤ
-price Priced.No = none
-price (Priced.Is p) = some p
+abbrev pub price : Option ℤ → Option ℤ
+price None = None
+price (Some p) = Some p
 
 abbrev pub price_at : Values → Option ℤ
 price_at v = price (price_of (v 270))
 
 -- On an order-depth channel (0) 37: 1 to 16 bytes, each 33 to 126, held as two numbers. On a price-depth one 346: 1 to
 -- 65,535, held as it and 0.
-pub record By : Type 0 where
-  pub by : ℕ
-  pub more : ℕ
+abbrev pub orders : Option ℕ → Option OrderId
+orders None = None
+orders (Some n) = Some (order_id n 0)
 
-abbrev pub orders : Number → OrderId
-orders No = OrderId.No
-orders (Is n) = OrderId.Is n 0
-
-unfoldable pub by_of : ℕ → Values → OrderId
+unfoldable pub by_of : ℕ → Values → Option OrderId
 by_of depth v = cond (eqb depth 0) (id_of (v 37)) (orders (ranged_of 5 1 65535 (v 346)))
 
-abbrev pub by : OrderId → Option By
-by OrderId.No = none
-by (OrderId.Is a b) = some (record { by = a; more = b })
-
-abbrev pub by_at : ℕ → Values → Option By
-by_at depth v = by (by_of depth v)
+abbrev pub by_at : ℕ → Values → Option OrderId
+by_at depth v = by_of depth v
 
 -- 272: a date. 273: a time of day. A date and a time of day are held as one number.
-unfoldable pub moment_in : Values → Number
+unfoldable pub moment_in : Values → Option ℕ
 moment_in v = join span (date_of (v 272)) (time_of (v 273))
 
 abbrev pub moment_at : Values → Option ℕ
@@ -131,9 +121,9 @@ values_of depth v =
     size_at v >>= λ size.
     by_at depth v >>= λ by.
     moment_at v >>= λ moment.
-    some (record { price = price; size = size; by = by.by; more = by.more; moment = moment })
+    Some (record { price = price; size = size; by = by.by; more = by.more; moment = moment })
 
 -- The code's answer.
 unfoldable pub valued : Option Entry → Valued
-valued none = Valued.No
-valued (some e) = Valued.Is e
+valued None = Valued.No
+valued (Some e) = Valued.Is e

@@ -7,9 +7,7 @@ ghost use Rattle.tags.specs.Slots.{marked};
 ghost use Rattle.values.specs.Values.{bvmf, instrument_of, sort_of, by_of, moment_in, values_of, valued};
 
 use book::Entry;
-use digits::Number;
 use orderid::OrderId;
-use price::Priced;
 use tags::Marks;
 
 // The values of a place, or none.
@@ -23,21 +21,21 @@ pub enum Valued {
 const OTHER: u64 = 3;
 
 // 269: bid, offer, J, or another sort.
-pub fn sort(text: &[u8]) -> Number
+pub fn sort(text: &[u8]) -> Option<u64>
     ensures { result ≡ sort_of text.now }
 {
     let n = text.len();
     if n == 0 {
-        return Number::No;
+        return None;
     }
     if n != 1 {
-        return Number::Is(OTHER);
+        return Some(OTHER);
     }
     match text[0] {
-        b'0' => Number::Is(book::BID),
-        b'1' => Number::Is(book::OFFER),
-        b'J' => Number::Is(book::J),
-        _ => Number::Is(OTHER),
+        b'0' => Some(book::BID),
+        b'1' => Some(book::OFFER),
+        b'J' => Some(book::J),
+        _ => Some(OTHER),
     }
 }
 
@@ -52,62 +50,62 @@ fn market(text: &[u8]) -> bool
 }
 
 // 48, beside 22 and 207.
-pub fn instrument(s: &[u8], m: Marks) -> Number
+pub fn instrument(s: &[u8], m: Marks) -> Option<u64>
     ensures { result ≡ instrument_of (marked s.now m) }
 {
-    let Number::Is(id) = digits::ranged(tags::value(s, m, tags::INSTRUMENT), 18, 1, book::MOST_ID)
+    let Some(id) = digits::ranged(tags::value(s, m, tags::INSTRUMENT), 18, 1, book::MOST_ID)
     else {
-        return Number::No;
+        return None;
     };
     if !frame::same(tags::value(s, m, tags::SOURCE), b"8") {
-        return Number::No;
+        return None;
     }
     if !market(tags::value(s, m, tags::MARKET)) {
-        return Number::No;
+        return None;
     }
-    Number::Is(id)
+    Some(id)
 }
 
 // 37 on an order-depth channel (0), 346 on a price-depth one.
-fn by(s: &[u8], depth: u64, m: Marks) -> OrderId
+fn by(s: &[u8], depth: u64, m: Marks) -> Option<OrderId>
     ensures { result ≡ by_of depth (marked s.now m) }
 {
     if depth == 0 {
         return orderid::read(tags::value(s, m, tags::ORDER));
     }
-    let Number::Is(n) = digits::ranged(tags::value(s, m, tags::ORDERS), 5, 1, 65535) else {
-        return OrderId::No;
+    let Some(n) = digits::ranged(tags::value(s, m, tags::ORDERS), 5, 1, 65535) else {
+        return None;
     };
-    OrderId::Is(n, 0)
+    Some(OrderId { by: n, more: 0 })
 }
 
 // 272 and 273.
-fn moment(s: &[u8], m: Marks) -> Number
+fn moment(s: &[u8], m: Marks) -> Option<u64>
     ensures { result ≡ moment_in (marked s.now m) }
 {
-    let Number::Is(day) = moment::date(tags::value(s, m, tags::DATE)) else {
-        return Number::No;
+    let Some(day) = moment::date(tags::value(s, m, tags::DATE)) else {
+        return None;
     };
-    let Number::Is(time) = moment::time(tags::value(s, m, tags::TIME)) else {
-        return Number::No;
+    let Some(time) = moment::time(tags::value(s, m, tags::TIME)) else {
+        return None;
     };
-    Number::Is(day * moment::SPAN + time)
+    Some(day * moment::SPAN + time)
 }
 
 // The values of a place.
 pub fn values(s: &[u8], depth: u64, m: Marks) -> Valued
     ensures { result ≡ valued (values_of depth (marked s.now m)) }
 {
-    let Priced::Is(price) = price::read(tags::value(s, m, tags::PRICE)) else {
+    let Some(price) = price::read(tags::value(s, m, tags::PRICE)) else {
         return Valued::No;
     };
-    let Number::Is(size) = digits::ranged(tags::value(s, m, tags::SIZE), 12, 1, 999999999999) else {
+    let Some(size) = digits::ranged(tags::value(s, m, tags::SIZE), 12, 1, 999999999999) else {
         return Valued::No;
     };
-    let OrderId::Is(a, b) = by(s, depth, m) else {
+    let Some(OrderId { by: a, more: b }) = by(s, depth, m) else {
         return Valued::No;
     };
-    let Number::Is(at) = moment(s, m) else {
+    let Some(at) = moment(s, m) else {
         return Valued::No;
     };
     Valued::Is(Entry {

@@ -10,7 +10,6 @@ ghost use Rattle.snapshot.specs.Writing.{letter, Ready};
 ghost use Rattle.writer.specs.Writing.{page_of, written_of, out_after, opening_fields};
 
 use book::Book;
-use orderid::OrderId;
 
 // What a writing answers: 0 and the message's length, or 25 and 0.
 #[derive(Clone, Copy)]
@@ -32,10 +31,7 @@ const FRAME_BYTES: usize = 20;
 pub fn id_bytes(text: &[u8]) -> bool
     ensures { result ≡ is_id text.now }
 {
-    let OrderId::Is(_, _) = orderid::read(text) else {
-        return false;
-    };
-    true
+    orderid::read(text).is_some()
 }
 
 // 8, and 9 with a length.

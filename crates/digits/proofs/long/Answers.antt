@@ -13,7 +13,7 @@ returns-in_default c =
 pub loop-i-init : goal.loop-i-init
 loop-i-init c =
     let s = c.args.text.now in
-    let a = after_first s ((length s - 1) % 4 + 1) (omega arith) c.requires.0 (sym c.in-Is.ensures) in
+    let a = after_first s ((length s - 1) % 4 + 1) (omega arith) c.requires.0 (sym c.in-Some.ensures) in
     (omega (arith, c.requires.0), omega (arith, c.requires.0), a.1, begun s 18 (omega (arith, c.requires.0)) c.requires.1 ∙ a.0)
 
 pub returns-in_default-next : goal.returns-in_default-next
@@ -29,13 +29,13 @@ overflow_mul-v c =
 pub overflow_add-v : goal.overflow_add-v
 overflow_add-v c =
     let l = c.loop-i in
-    let w = below 4 _ (sym c.in-Is-next.ensures) in
+    let w = below 4 _ (sym c.in-Some-next.ensures) in
     omega (arith, push_four l.i l.invariant.2 w, small {j = l.i + 4} (omega (arith, c.loop-i-test.true, l.invariant.1, c.requires.1)))
 
 pub loop-i-preserved : goal.loop-i-preserved
 loop-i-preserved c =
     let l = c.loop-i in
-    let e = sym c.in-Is-next.ensures in
+    let e = sym c.in-Some-next.ensures in
     (omega (arith, c.loop-i-test.true, l.invariant.1), omega (arith, l.invariant.1), push_four l.i l.invariant.2 (below 4 _ e), l.invariant.3 ∙ after_next _ l.i l.v (omega (arith, c.loop-i-test.true, l.invariant.1)) e)
 
 pub returns : goal.returns

@@ -11,12 +11,12 @@ returns-in_default c = rw (sym c.in_default.ensures)
 
 pub returns-then-v-low : goal.returns-then-v-low
 unfolding ranged_of
-returns-then-v-low c = rw ((sym c.in-Is.ensures), lt-leb _ _ c.if-v-low.true)
+returns-then-v-low c = rw ((sym c.in-Some.ensures), lt-leb _ _ c.if-v-low.true)
 
 pub returns-then-high-v : goal.returns-then-high-v
 unfolding ranged_of
-returns-then-high-v c = rw ((sym c.in-Is.ensures), lt-leb _ _ c.if-high-v.true, and-false)
+returns-then-high-v c = rw ((sym c.in-Some.ensures), lt-leb _ _ c.if-high-v.true, and-false)
 
 pub returns : goal.returns
 unfolding ranged_of
-returns c = rw ((sym c.in-Is.ensures), le-leb _ _ c.if-v-low.false, le-leb _ _ c.if-high-v.false)
+returns c = rw ((sym c.in-Some.ensures), le-leb _ _ c.if-v-low.false, le-leb _ _ c.if-high-v.false)

@@ -19,7 +19,7 @@ returns-in_default c =
 
 pub returns-then-n-le-FEW : goal.returns-then-n-le-FEW
 returns-then-n-le-FEW c =
-    let e = sym c.in-Is.ensures in
+    let e = sym c.in-Some.ensures in
     as_plain _ _ (sym (widest c.args.text.now c.args.width (omega (arith, c.if-n-eq0.false)) (omega (arith, c.if-n-le-FEW.true, c.requires)) c.if-width-gt-WIDEST.false) ∙ e) (below 18 _ e)
 
 pub returns-then-width-n : goal.returns-then-width-n
@@ -32,5 +32,5 @@ returns-in_default-many c =
 
 pub returns : goal.returns
 returns c =
-    let e = sym c.in-Is-many.ensures in
+    let e = sym c.in-Some-many.ensures in
     as_plain _ _ (sym (widest _ _ (omega (arith, c.if-n-le-FEW.false)) c.if-width-n.false c.if-width-gt-WIDEST.false) ∙ e) (below 18 _ e)

@@ -1,6 +1,6 @@
 -- `digits::written` meets its contract. Assumes nothing.
+use Rattle.std.specs.Prelude.{Some}
 use Rattle.std.proofs.Common.{sym, ap, ◌∙◌}
-use Rattle.digits.specs.declared.Number.TheVariants.{Is}
 use Rattle.digits.proofs.Fours.{writes, writes_none}
 use Rattle.digits.proofs.written.Goals as goal
 
@@ -10,4 +10,4 @@ returns-then-w-ne0 c =
 
 pub returns : goal.returns
 returns c =
-    ap Is c.four.ensures ∙ sym (writes c.args.w c.requires c.if-w-ne0.false)
+    ap Some c.four.ensures ∙ sym (writes c.args.w c.requires c.if-w-ne0.false)

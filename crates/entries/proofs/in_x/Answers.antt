@@ -1,16 +1,16 @@
 -- `entries::in_x` meets its contract: 279, then 269, then by its sort. Assumes nothing.
+use Rattle.std.specs.Prelude.{Option}
 use Prim.Native.Nat.{ℕ}
 use mathlib.Core.List.{List}
 use mathlib.Core.Path.{◌≡◌, sym, ◌∙◌}
 use borrow.Author.Tests.{le-leb, lt-leb, eq-eqb, ne_eqb}
 use Rattle.digits.specs.Digits.{ranged_of}
-use Rattle.digits.specs.declared.Number.{Number}
 use Rattle.tags.specs.Slots.{slot_of, marked}
 use Rattle.entries.specs.Entries.{entry_in_x, said}
 use Rattle.entries.proofs.in_x.Goals as goal
 
 -- 279 is read from 0 to 4
-action_is : (text : List ℕ) {r n : Number} → r ≡ ranged_of 1 0 4 text → r ≡ n → ranged_of 1 0 4 text ≡ n
+action_is : (text : List ℕ) {r n : Option ℕ} → r ≡ ranged_of 1 0 4 text → r ≡ n → ranged_of 1 0 4 text ≡ n
 action_is text p q = sym p ∙ q
 
 pub returns-in_default : goal.returns-in_default

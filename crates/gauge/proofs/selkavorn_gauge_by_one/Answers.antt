@@ -9,4 +9,4 @@ returns-in_default c = ap told (sym c.in_default.is ∙ c.by_one.ensures)
 
 pub returns : goal.returns
 unfolding gauge_of
-returns c = ap told (sym c.in-Is.is ∙ c.by_one.ensures)
+returns c = ap told (sym c.in-Some.is ∙ c.by_one.ensures)

@@ -11,12 +11,12 @@ pub returns-in_default : goal.returns-in_default
 returns-in_default c = sym (date_by _ c.if-text-ne8.false ∙ rw (read_as c.digits.ensures c.in_default.is))
 
 pub day_of-requires : goal.day_of-requires
-day_of-requires c = (below 8 _ (read_as c.digits.ensures c.in-Is.is), sym c.is_date.ensures ∙ c.if-is_date.true)
+day_of-requires c = (below 8 _ (read_as c.digits.ensures c.in-Some.is), sym c.is_date.ensures ∙ c.if-is_date.true)
 
 pub returns-then-is_date : goal.returns-then-is_date
 returns-then-is_date c =
-    sym (date_by _ c.if-text-ne8.false ∙ rw (read_as c.digits.ensures c.in-Is.is, sym c.is_date.ensures ∙ c.if-is_date.true, c.day_of.ensures.0))
+    sym (date_by _ c.if-text-ne8.false ∙ rw (read_as c.digits.ensures c.in-Some.is, sym c.is_date.ensures ∙ c.if-is_date.true, c.day_of.ensures.0))
 
 pub returns : goal.returns
 returns c =
-    sym (date_by _ c.if-text-ne8.false ∙ rw (read_as c.digits.ensures c.in-Is.is, sym c.is_date.ensures ∙ c.if-is_date.false))
+    sym (date_by _ c.if-text-ne8.false ∙ rw (read_as c.digits.ensures c.in-Some.is, sym c.is_date.ensures ∙ c.if-is_date.false))

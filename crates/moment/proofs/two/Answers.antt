@@ -11,8 +11,8 @@ returns-in_default c = sym (rw (read_as c.digits.ensures c.in_default.is))
 
 pub returns-then-high-v : goal.returns-then-high-v
 unfolding two_of
-returns-then-high-v c = sym (rw (read_as c.digits.ensures c.in-Is.is, lt-leb _ _ c.if-high-v.true))
+returns-then-high-v c = sym (rw (read_as c.digits.ensures c.in-Some.is, lt-leb _ _ c.if-high-v.true))
 
 pub returns : goal.returns
 unfolding two_of
-returns c = sym (rw (read_as c.digits.ensures c.in-Is.is, le-leb _ _ c.if-high-v.false))
+returns c = sym (rw (read_as c.digits.ensures c.in-Some.is, le-leb _ _ c.if-high-v.false))

@@ -15,7 +15,7 @@ pub returns-in_default : goal.returns-in_default
 returns-in_default c = sym (one_word _ c.if-n-eq0.false c.if-n-gt16.false c.if-n-le8.true ∙ rw (read_as c.read_word.ensures c.in_default.is))
 
 pub returns-then-n-le8 : goal.returns-then-n-le8
-returns-then-n-le8 c = sym (one_word _ c.if-n-eq0.false c.if-n-gt16.false c.if-n-le8.true ∙ rw (read_as c.read_word.ensures c.in-Is.is))
+returns-then-n-le8 c = sym (one_word _ c.if-n-eq0.false c.if-n-gt16.false c.if-n-le8.true ∙ rw (read_as c.read_word.ensures c.in-Some.is))
 
 pub slice_bounds-read_word-end : goal.slice_bounds-read_word-end
 slice_bounds-read_word-end c = rw length-take (omega arith)
@@ -29,10 +29,10 @@ returns-in_default-read_word c = sym (by_words_lem _ c.if-n-eq0.false c.if-n-gt1
 pub returns-in_default-read_word-2 : goal.returns-in_default-read_word-2
 returns-in_default-read_word-2 c =
     let e = rw rest_all at c.read_word-3.ensures in
-    sym (by_words_lem _ c.if-n-eq0.false c.if-n-gt16.false ∙ rw (read_as c.read_word-2.ensures c.in-Is-read_word.is, read_as e c.in_default-read_word-2.is))
+    sym (by_words_lem _ c.if-n-eq0.false c.if-n-gt16.false ∙ rw (read_as c.read_word-2.ensures c.in-Some-read_word.is, read_as e c.in_default-read_word-2.is))
 
 pub returns : goal.returns
 returns c =
     let b = c.before in
     let e = rw rest_all at c.read_word-3.ensures in
-    sym (by_words_lem _ c.if-n-eq0.false c.if-n-gt16.false ∙ rw (read_as c.read_word-2.ensures c.in-Is-read_word.is, read_as e c.in-Is-read_word-2.is))
+    sym (by_words_lem _ c.if-n-eq0.false c.if-n-gt16.false ∙ rw (read_as c.read_word-2.ensures c.in-Some-read_word.is, read_as e c.in-Some-read_word-2.is))

@@ -23,19 +23,19 @@ pub returns-then-not-arguments_fine : goal.returns-then-not-arguments_fine
 returns-then-not-arguments_fine c =
     let x = c.args in
     let s : sound x.store.now ≡ true = sym c.sound.ensures ∙ c.if-not-sound.false in
-    let p = bad x.id x.sender.now x.target.now x.k x.m x.time.now x.store.now s _ (sym c.in-Is.ensures) (sym c.arguments_fine.ensures ∙ c.if-not-arguments_fine.true) in
+    let p = bad x.id x.sender.now x.target.now x.k x.m x.time.now x.store.now s _ (sym c.in-Some.ensures) (sym c.arguments_fine.ensures ∙ c.if-not-arguments_fine.true) in
     sent x.id x.sender.now x.target.now x.k x.m x.time.now x.store.now x.out.now _ p
 
 pub write_sound-requires : goal.write_sound-requires
 write_sound-requires c =
     let x = c.args in
     let s : sound x.store.now ≡ true = sym c.sound.ensures ∙ c.if-not-sound.false in
-    (s, sym c.arguments_fine.ensures ∙ c.if-not-arguments_fine.false, moment_lt x.time.now (sym c.in-Is.ensures))
+    (s, sym c.arguments_fine.ensures ∙ c.if-not-arguments_fine.false, moment_lt x.time.now (sym c.in-Some.ensures))
 
 pub returns : goal.returns
 returns c =
     let x = c.args in
     let s : sound x.store.now ≡ true = sym c.sound.ensures ∙ c.if-not-sound.false in
-    let p = good x.id x.sender.now x.target.now x.k x.m x.time.now x.store.now s _ (sym c.in-Is.ensures) (sym c.arguments_fine.ensures ∙ c.if-not-arguments_fine.false) in
+    let p = good x.id x.sender.now x.target.now x.k x.m x.time.now x.store.now s _ (sym c.in-Some.ensures) (sym c.arguments_fine.ensures ∙ c.if-not-arguments_fine.false) in
     let t = sent x.id x.sender.now x.target.now x.k x.m x.time.now x.store.now x.out.now _ p in
     record { answer = c.write_sound.ensures.value ∙ t.answer; out = c.write_sound.ensures.out_after ∙ t.out }

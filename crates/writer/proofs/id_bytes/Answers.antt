@@ -7,4 +7,4 @@ pub returns-in_default : goal.returns-in_default
 returns-in_default c = sym (no_id _ (sym c.in_default.ensures))
 
 pub returns : goal.returns
-returns c = sym (an_id _ (sym c.in-Is.ensures))
+returns c = sym (an_id _ (sym c.in-Some.ensures))
