@@ -52,7 +52,7 @@ returns-in_default-field_of c =
     rw (
       sym c.begins.ensures ∙ c.if-not-begins.false,
       sym c.in-Is.ensures,
-      sym c.in-Is-whole.ensures,
+      sym c.in-Some.ensures,
       sym c.in_default-field_of.ensures,
     )
 
@@ -62,6 +62,6 @@ returns c =
     rw (
       sym c.begins.ensures ∙ c.if-not-begins.false,
       sym c.in-Is.ensures,
-      sym c.in-Is-whole.ensures,
+      sym c.in-Some.ensures,
       sym c.in-Is-field_of.ensures,
     )

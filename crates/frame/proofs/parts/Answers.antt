@@ -58,5 +58,5 @@ returns c =
       sym c.in-Is.ensures,
       eq-eqb _ _ c.if-at-count.false,
       le-leb _ _ c.if-end-next.false,
-      sym c.in-Is-trailer.ensures,
+      sym c.in-Some.ensures,
     )

@@ -61,12 +61,12 @@ overflow_add-result c =
 pub overflow_add-result-2 : goal.overflow_add-result-2
 overflow_add-result-2 c =
     let f = found _ _ (sym c.in-Is.ensures) in
-    omega (arith, f.high, whole_below 5 _ (sym c.in-Is-whole.ensures))
+    omega (arith, f.high, whole_below 5 _ (sym c.in-Some.ensures))
 
 pub overflow_add-result-3 : goal.overflow_add-result-3
 overflow_add-result-3 c =
     let f = found _ _ (sym c.in-Is.ensures) in
-    omega (arith, f.high, whole_below 5 _ (sym c.in-Is-whole.ensures))
+    omega (arith, f.high, whole_below 5 _ (sym c.in-Some.ensures))
 
 pub returns : goal.returns
 unfolding named_of
@@ -75,5 +75,5 @@ returns c =
       sym c.begins.ensures ∙ c.if-not-begins.false,
       sym c.in-Is.ensures,
       eq-eqb _ _ c.if-tag-ne9.false,
-      sym c.in-Is-whole.ensures,
+      sym c.in-Some.ensures,
     )

@@ -17,4 +17,4 @@ returns-in_default c =
 pub returns : goal.returns
 unfolding by_of marked slot_of
 returns c =
-    rw (ne_eqb _ 0 c.if-depth-eq0.false, ← c.value-2.ensures, sym c.in-Is.ensures)
+    rw (ne_eqb _ 0 c.if-depth-eq0.false, ← c.value-2.ensures, sym c.in-Some.ensures)

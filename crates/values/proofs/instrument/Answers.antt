@@ -13,7 +13,7 @@ unfolding instrument_of marked slot_of
 returns-then-not-same c =
     rw (
       ← c.value.ensures,
-      sym c.in-Is.ensures,
+      sym c.in-Some.ensures,
       ← c.value-2.ensures,
       sym c.same.ensures ∙ c.if-not-same.true,
     )
@@ -23,7 +23,7 @@ unfolding instrument_of marked slot_of
 returns-then-not-market c =
     rw (
       ← c.value.ensures,
-      sym c.in-Is.ensures,
+      sym c.in-Some.ensures,
       ← c.value-2.ensures,
       sym c.same.ensures ∙ c.if-not-same.false,
       ← c.value-3.ensures,
@@ -35,7 +35,7 @@ unfolding instrument_of marked slot_of
 returns c =
     rw (
       ← c.value.ensures,
-      sym c.in-Is.ensures,
+      sym c.in-Some.ensures,
       ← c.value-2.ensures,
       sym c.same.ensures ∙ c.if-not-same.false,
       ← c.value-3.ensures,

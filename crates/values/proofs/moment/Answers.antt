@@ -15,25 +15,25 @@ unfolding moment_in marked slot_of
 returns-in_default-time c =
     rw (
       ← c.value.ensures,
-      sym c.in-Is.ensures,
+      sym c.in-Some.ensures,
       ← c.value-2.ensures,
       sym c.in_default-time.ensures,
     )
 
 pub overflow_mul-result : goal.overflow_mul-result
 overflow_mul-result c =
-    let m = moment_fits _ _ (sym c.in-Is.ensures) (sym c.in-Is-time.ensures) in omega arith
+    let m = moment_fits _ _ (sym c.in-Some.ensures) (sym c.in-Some-time.ensures) in omega arith
 
 pub overflow_add-result : goal.overflow_add-result
 overflow_add-result c =
-    let m = moment_fits _ _ (sym c.in-Is.ensures) (sym c.in-Is-time.ensures) in omega arith
+    let m = moment_fits _ _ (sym c.in-Some.ensures) (sym c.in-Some-time.ensures) in omega arith
 
 pub returns : goal.returns
 unfolding moment_in marked slot_of
 returns c =
     rw (
       ← c.value.ensures,
-      sym c.in-Is.ensures,
+      sym c.in-Some.ensures,
       ← c.value-2.ensures,
-      sym c.in-Is-time.ensures,
+      sym c.in-Some-time.ensures,
     )

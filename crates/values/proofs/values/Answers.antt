@@ -18,7 +18,7 @@ unfolding values_of valued marked slot_of
 returns-in_default-ranged c =
     rw (
       ← c.value.ensures,
-      sym c.in-Is.ensures,
+      sym c.in-Some.ensures,
       ← c.value-2.ensures,
       sym c.in_default-ranged.ensures,
     )
@@ -28,9 +28,9 @@ unfolding values_of valued marked slot_of
 returns-in_default-by c =
     rw (
       ← c.value.ensures,
-      sym c.in-Is.ensures,
+      sym c.in-Some.ensures,
       ← c.value-2.ensures,
-      sym c.in-Is-ranged.ensures,
+      sym c.in-Some-ranged.ensures,
       sym c.in_default-by.ensures,
     )
 
@@ -39,10 +39,10 @@ unfolding values_of valued marked slot_of
 returns-in_default-moment c =
     rw (
       ← c.value.ensures,
-      sym c.in-Is.ensures,
+      sym c.in-Some.ensures,
       ← c.value-2.ensures,
-      sym c.in-Is-ranged.ensures,
-      sym c.in-Is-by.ensures,
+      sym c.in-Some-ranged.ensures,
+      sym c.in-Some-by.ensures,
       sym c.in_default-moment.ensures,
     )
 
@@ -51,9 +51,9 @@ unfolding values_of valued marked slot_of
 returns c =
     rw (
       ← c.value.ensures,
-      sym c.in-Is.ensures,
+      sym c.in-Some.ensures,
       ← c.value-2.ensures,
-      sym c.in-Is-ranged.ensures,
-      sym c.in-Is-by.ensures,
-      sym c.in-Is-moment.ensures,
+      sym c.in-Some-ranged.ensures,
+      sym c.in-Some-by.ensures,
+      sym c.in-Some-moment.ensures,
     ) (search rules)
