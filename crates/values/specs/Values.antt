@@ -10,7 +10,6 @@ use Rattle.moment.specs.Moments.{date_of, time_of, moment_of, span, join}
 use Rattle.frame.specs.Frames.{equal}
 use Rattle.book.specs.Ids.{most_id}
 use Rattle.book.specs.declared.Entry.{Entry}
-use Rattle.values.specs.declared.Valued.{Valued}
 
 module _ {A : Type 0} where
   infixr 10 ◌>>=◌
@@ -28,13 +27,9 @@ module _ {A : Type 0} where
 abbrev pub Values : Type 0
 Values = ℕ → List ℕ
 
-abbrev pub number : Option ℕ → Option ℕ
-number None = None
-number (Some n) = Some n
-
 -- A whole number of at most w digits from lo to hi, the value of a tag.
 abbrev pub whole_at : ℕ → ℕ → ℕ → ℕ → Values → Option ℕ
-whole_at t w lo hi v = number (ranged_of w lo hi (v t))
+whole_at t w lo hi v = ranged_of w lo hi (v t)
 
 -- 34: 1 to 4,294,967,295. 369: 0 to 4,294,967,295. 911: 1 to 4,294,967,295.
 abbrev pub seq_at : Values → Option ℕ
@@ -61,7 +56,7 @@ size_at = whole_at 271 12 1 999999999999
 
 -- 52: a date and a time of day.
 abbrev pub heard_at : Values → Option ℕ
-heard_at v = number (moment_of (v 52))
+heard_at v = moment_of (v 52)
 
 -- 48: 1 to 18 digits, at least 1. 22: 8. 207: BVMF, or absent.
 unfoldable pub bvmf : List ℕ → Bool
@@ -76,7 +71,7 @@ unfoldable pub instrument_of : Values → Option ℕ
 instrument_of v = identified (ranged_of 18 1 most_id (v 48)) (equal (v 22) (56 ∷ []) && bvmf (v 207))
 
 abbrev pub instrument_at : Values → Option ℕ
-instrument_at v = number (instrument_of v)
+instrument_at v = instrument_of v
 
 -- 269: 0 bid, 1 offer, J empty book, numbered 0, 1, 2; any other value is 3.
 unfoldable pub sort_of : List ℕ → Option ℕ
@@ -85,15 +80,11 @@ sort_of (b ∷ []) = Some (cond (eqb b 48) 0 (cond (eqb b 49) 1 (cond (eqb b 74)
 sort_of (b ∷ c ∷ bs) = Some 3
 
 abbrev pub sort_at : Values → Option ℕ
-sort_at v = number (sort_of (v 269))
+sort_at v = sort_of (v 269)
 
 -- 270: a signed whole number of hundred-millionths (document 02, K6).
-abbrev pub price : Option ℤ → Option ℤ
-price None = None
-price (Some p) = Some p
-
 abbrev pub price_at : Values → Option ℤ
-price_at v = price (price_of (v 270))
+price_at v = price_of (v 270)
 
 -- On an order-depth channel (0) 37: 1 to 16 bytes, each 33 to 126, held as two numbers. On a price-depth one 346: 1 to
 -- 65,535, held as it and 0.
@@ -104,26 +95,15 @@ orders (Some n) = Some (order_id n 0)
 unfoldable pub by_of : ℕ → Values → Option OrderId
 by_of depth v = cond (eqb depth 0) (id_of (v 37)) (orders (ranged_of 5 1 65535 (v 346)))
 
-abbrev pub by_at : ℕ → Values → Option OrderId
-by_at depth v = by_of depth v
-
 -- 272: a date. 273: a time of day. A date and a time of day are held as one number.
 unfoldable pub moment_in : Values → Option ℕ
 moment_in v = join span (date_of (v 272)) (time_of (v 273))
-
-abbrev pub moment_at : Values → Option ℕ
-moment_at v = number (moment_in v)
 
 -- The values of a place: 270, 271, 37 or 346, 272, 273.
 unfoldable pub values_of : ℕ → Values → Option Entry
 values_of depth v =
     price_at v >>= λ price.
     size_at v >>= λ size.
-    by_at depth v >>= λ by.
-    moment_at v >>= λ moment.
+    by_of depth v >>= λ by.
+    moment_in v >>= λ moment.
     Some (record { price = price; size = size; by = by.by; more = by.more; moment = moment })
-
--- The code's answer.
-unfoldable pub valued : Option Entry → Valued
-valued None = Valued.No
-valued (Some e) = Valued.Is e
