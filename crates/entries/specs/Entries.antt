@@ -5,7 +5,6 @@ use Rattle.book.specs.declared.Update.{Update}
 use Rattle.book.specs.Rules.{empty_of_all}
 use Rattle.book.specs.Sides.{no_entry}
 use Rattle.values.specs.Values.{◌>>=◌, need, Values, instrument_at, action_at, sort_at, place_at, values_of}
-use Rattle.entries.specs.declared.Said.{Said}
 
 -- An entry says one update, or it is passed over.
 abbrev pub says : Update → Option (Option Update)
@@ -54,9 +53,3 @@ shown_entry depth id side v =
 
 unfoldable pub entry_in_w : ℕ → ℕ → Values → Option (Option Update)
 entry_in_w depth id v = sort_at v >>= λ sort. cond (leb sort 1) (shown_entry depth id sort v) passed_over
-
--- The code's answer.
-unfoldable pub said : Option (Option Update) → Said
-said None = Said.Bad
-said (Some None) = Said.Passed
-said (Some (Some u)) = Said.Is u

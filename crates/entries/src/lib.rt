@@ -4,50 +4,34 @@
 
 ghost use Rattle.std.specs.Prelude.{◌≡◌, ◌<◌, eqb, length, get_or};
 ghost use Rattle.tags.specs.Slots.{text_at, marked};
-ghost use Rattle.entries.specs.Entries.{book_entry, empty_all, empty_book, entry_in_x, shown_entry, entry_in_w, said};
+ghost use Rattle.entries.specs.Entries.{book_entry, empty_all, empty_book, entry_in_x, shown_entry, entry_in_w, empties};
 
 use book::Update;
 use tags::Marks;
-use values::Valued;
 
-// What an entry says: an update, or nothing, or it breaches a rule.
-#[derive(Clone, Copy)]
-pub enum Said {
-    Is(Update),
-    Passed,
-    Bad,
-}
+// What an entry says: an update, or nothing where it is passed over; none where it breaches a rule.
+pub type Said = Option<Option<Update>>;
 
 // A bid or an offer in X.
+#[tactic(auto, unfolding(crate::specs::Entries::book_entry, tags::specs::Slots::marked, tags::specs::Slots::slot_of))]
 fn book_entry(s: &[u8], depth: u64, side: u64, action: u64, m: Marks) -> Said
-    ensures { result ≡ said (book_entry depth side action (marked s.now m)) }
+    ensures { result ≡ book_entry depth side action (marked s.now m) }
 {
-    let Some(place) = digits::ranged(tags::value(s, m, tags::POSITION), 5, 1, 65535) else {
-        return Said::Bad;
-    };
-    let Some(id) = values::instrument(s, m) else {
-        return Said::Bad;
-    };
+    let place = digits::ranged(tags::value(s, m, tags::POSITION), 5, 1, 65535)?;
+    let who = values::instrument(s, m)?;
     // the deletes come after change
-    if book::CHANGE < action {
-        return Said::Is(Update {
-            who: id,
-            what: side,
-            action,
-            place: place as usize,
-            entry: book::no_entry(),
-        });
-    }
-    let Valued::Is(e) = values::values(s, depth, m) else {
-        return Said::Bad;
+    let entry = if action <= book::CHANGE {
+        values::values(s, depth, m)?
+    } else {
+        book::no_entry()
     };
-    Said::Is(Update {
-        who: id,
+    Some(Some(Update {
+        who,
         what: side,
         action,
         place: place as usize,
-        entry: e,
-    })
+        entry,
+    }))
 }
 
 // Whether the tag of slot k does not stand in the entry.
@@ -55,94 +39,81 @@ fn absent(s: &[u8], m: Marks, k: usize) -> bool
     requires { k < 22 }
     ensures { result ≡ eqb (length (text_at s.now (get_or m.from k 0) (get_or m.to k 0))) 0 }
 {
-    tags::value(s, m, k).len() == 0
+    tags::value(s, m, k).is_empty()
 }
 
-// J in X without 48: it is for all instruments, and neither 22 nor 207 may stand.
-fn empty_all(s: &[u8], m: Marks) -> Said
-    ensures { result ≡ said (empty_all (marked s.now m)) }
+// J in X: of one instrument, or for all.
+fn empties(who: u64, what: u64) -> Said
+    ensures { result ≡ empties who what }
 {
-    if !absent(s, m, tags::SOURCE) {
-        return Said::Bad;
-    }
-    if !absent(s, m, tags::MARKET) {
-        return Said::Bad;
-    }
-    Said::Is(Update {
-        who: 0,
-        what: book::J_FOR_ALL,
+    Some(Some(Update {
+        who,
+        what,
         action: book::NEW,
         place: 0,
         entry: book::no_entry(),
-    })
+    }))
+}
+
+// J in X without 48: it is for all instruments, and neither 22 nor 207 may stand.
+#[tactic(auto, unfolding(crate::specs::Entries::empty_all, tags::specs::Slots::marked, tags::specs::Slots::slot_of))]
+fn empty_all(s: &[u8], m: Marks) -> Said
+    ensures { result ≡ empty_all (marked s.now m) }
+{
+    if absent(s, m, tags::SOURCE) && absent(s, m, tags::MARKET) {
+        empties(0, book::J_FOR_ALL)
+    } else {
+        None
+    }
 }
 
 // J in X.
+#[tactic(auto, unfolding(crate::specs::Entries::empty_book, tags::specs::Slots::marked, tags::specs::Slots::slot_of))]
 fn empty_book(s: &[u8], m: Marks) -> Said
-    ensures { result ≡ said (empty_book (marked s.now m)) }
+    ensures { result ≡ empty_book (marked s.now m) }
 {
     if absent(s, m, tags::INSTRUMENT) {
         return empty_all(s, m);
     }
-    let Some(id) = values::instrument(s, m) else {
-        return Said::Bad;
-    };
-    Said::Is(Update {
-        who: id,
-        what: book::J,
-        action: book::NEW,
-        place: 0,
-        entry: book::no_entry(),
-    })
+    empties(values::instrument(s, m)?, book::J)
 }
 
 // An entry of an X.
+#[tactic(auto, unfolding(crate::specs::Entries::entry_in_x, tags::specs::Slots::marked, tags::specs::Slots::slot_of))]
 pub fn in_x(s: &[u8], depth: u64, m: Marks) -> Said
-    ensures { result ≡ said (entry_in_x depth (marked s.now m)) }
+    ensures { result ≡ entry_in_x depth (marked s.now m) }
 {
-    let Some(action) = digits::ranged(tags::value(s, m, tags::ACTION), 1, 0, 4) else {
-        return Said::Bad;
-    };
-    let Some(sort) = values::sort(tags::value(s, m, tags::SORT)) else {
-        return Said::Bad;
-    };
-    if sort <= book::OFFER {
-        return book_entry(s, depth, sort, action, m);
+    let action = digits::ranged(tags::value(s, m, tags::ACTION), 1, 0, 4)?;
+    match values::sort(tags::value(s, m, tags::SORT))? {
+        side @ (book::BID | book::OFFER) => book_entry(s, depth, side, action, m),
+        book::J => empty_book(s, m),
+        _ => Some(None),
     }
-    if sort == book::J {
-        return empty_book(s, m);
-    }
-    Said::Passed
 }
 
 // A bid or an offer in a W for the instrument id.
+#[tactic(auto, unfolding(crate::specs::Entries::shown_entry, tags::specs::Slots::marked, tags::specs::Slots::slot_of))]
 fn shown_entry(s: &[u8], depth: u64, id: u64, side: u64, m: Marks) -> Said
-    ensures { result ≡ said (shown_entry depth id side (marked s.now m)) }
+    ensures { result ≡ shown_entry depth id side (marked s.now m) }
 {
-    let Some(place) = digits::ranged(tags::value(s, m, tags::POSITION), 5, 1, 65535) else {
-        return Said::Bad;
-    };
-    let Valued::Is(e) = values::values(s, depth, m) else {
-        return Said::Bad;
-    };
-    Said::Is(Update {
+    let place = digits::ranged(tags::value(s, m, tags::POSITION), 5, 1, 65535)?;
+    let entry = values::values(s, depth, m)?;
+    Some(Some(Update {
         who: id,
         what: side,
         action: book::NEW,
         place: place as usize,
-        entry: e,
-    })
+        entry,
+    }))
 }
 
 // An entry of a W for the instrument id.
+#[tactic(auto, unfolding(crate::specs::Entries::entry_in_w, tags::specs::Slots::marked, tags::specs::Slots::slot_of))]
 pub fn in_w(s: &[u8], depth: u64, id: u64, m: Marks) -> Said
-    ensures { result ≡ said (entry_in_w depth id (marked s.now m)) }
+    ensures { result ≡ entry_in_w depth id (marked s.now m) }
 {
-    let Some(sort) = values::sort(tags::value(s, m, tags::SORT)) else {
-        return Said::Bad;
-    };
-    if sort <= book::OFFER {
-        return shown_entry(s, depth, id, sort, m);
+    match values::sort(tags::value(s, m, tags::SORT))? {
+        side @ (book::BID | book::OFFER) => shown_entry(s, depth, id, side, m),
+        _ => Some(None),
     }
-    Said::Passed
 }

@@ -4,7 +4,6 @@
 
 ghost use Rattle.std.specs.Prelude.{◌≡◌, ◌<◌};
 ghost use Rattle.tags.specs.Slots.{marked};
-ghost use Rattle.entries.specs.Entries.{said};
 ghost use Rattle.position.specs.Positions.{next_on, next_after, entry_next};
 
 use entries::Said;
@@ -44,49 +43,47 @@ pub struct Next {
     pub offer: usize,
 }
 
-// The next position of a side.
-fn next_on(next: Next, side: u64) -> usize
-    ensures { result ≡ next_on next side }
-{
-    if side == 0 {
-        return next.bid;
+impl Next {
+    // The next position of a side.
+    fn on(self, side: u64) -> usize
+        ensures { result ≡ next_on self side }
+    {
+        if side == book::BID {
+            self.bid
+        } else {
+            self.offer
+        }
     }
-    next.offer
-}
 
-// The next positions after an entry of a side.
-pub fn next_after(next: Next, side: u64) -> Next
-    requires { (next.bid < 65536) × (next.offer < 65536) }
-    ensures { result ≡ next_after next side }
-{
-    if side == 0 {
-        return Next {
-            bid: next.bid + 1,
-            offer: next.offer,
-        };
-    }
-    Next {
-        bid: next.bid,
-        offer: next.offer + 1,
+    // The next positions after an entry of a side.
+    pub fn after(self, side: u64) -> Next
+        requires { (self.bid < 65536) × (self.offer < 65536) }
+        ensures { result ≡ next_after self side }
+    {
+        if side == book::BID {
+            Next {
+                bid: self.bid + 1,
+                ..self
+            }
+        } else {
+            Next {
+                offer: self.offer + 1,
+                ..self
+            }
+        }
     }
 }
 
 // What an entry says; in a W it must stand at the next position of its side.
+#[tactic(auto, unfolding(crate::specs::Positions::entry_next, crate::specs::Positions::entry_in, crate::specs::Positions::at_next))]
 pub fn entry(s: &[u8], depth: u64, t: Top, next: Next, m: Marks) -> Said
-    ensures { result ≡ said (entry_next depth t next (marked s.now m)) }
+    ensures { result ≡ entry_next depth t next (marked s.now m) }
 {
     if t.first == FIRST_X {
         return entries::in_x(s, depth, m);
     }
-    let told = entries::in_w(s, depth, t.id, m);
-    match told {
-        Said::Bad => Said::Bad,
-        Said::Passed => Said::Passed,
-        Said::Is(u) => {
-            if u.place != next_on(next, u.what) {
-                return Said::Bad;
-            }
-            Said::Is(u)
-        }
+    match entries::in_w(s, depth, t.id, m)? {
+        Some(u) if u.place != next.on(u.what) => None,
+        said => Some(said),
     }
 }
