@@ -16,8 +16,7 @@ use Rattle.text.specs.Text.{decimal, free}
 use Rattle.text.proofs.Written.{whole_back, digits_decimal}
 use Rattle.chain.specs.Fields.{Field, ahead, before, field_of, then, cut, fields_of}
 use Rattle.chain.specs.Bytes.{field_bytes, bytes_of, fair, all_fair}
-use Rattle.chain.specs.Places.{part, first_of, field_at}
-use Rattle.chain.specs.declared.Step.{Step}
+use Rattle.chain.specs.Places.{step, part, first_of, field_at}
 use Rattle.chain.proofs.Ahead.{ahead_at, digits_free, free_append}
 use Rattle.chain.proofs.Reading.{a_value}
 use Rattle.chain.proofs.Walk.{parted_bytes, parted_fair}
@@ -126,7 +125,7 @@ fields_only s fs e = cut_only s [] fs refl e
 
 -- ---- a field written at a place is found there
 pub record Stands (s : List ℕ) (at : ℕ) (f : Field) (r : List ℕ) (from to : ℕ) : Type 0 where
-  pub step : field_at s at ≡ Step.Is f.tag from to
+  pub step : field_at s at ≡ Some (step f.tag from to)
   pub text : part from to s ≡ f.text
   pub next : drop (to + 1) s ≡ r
 

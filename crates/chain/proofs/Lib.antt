@@ -1,5 +1,5 @@
-pub mod Scan
 pub mod Ahead
+pub mod Scan
 pub mod Shortest
 pub mod Reading
 pub mod Walk

@@ -12,7 +12,7 @@ use lib.Seq.{take-take, drop-drop}
 use Rattle.digits.specs.Digits.{ranged_of}
 use Rattle.text.specs.Text.{free}
 use Rattle.chain.specs.Fields.{field, ahead, before, named, field_of}
-use Rattle.chain.specs.Places.{part, first_of, placed, field_at}
+use Rattle.chain.specs.Places.{step, part, first_of, placed, field_at}
 use Rattle.chain.specs.declared.Step.{Step}
 use Rattle.chain.proofs.Ahead.{ahead_le, ahead_take, ahead_past, at_ahead, digits_free, drop_take}
 use Rattle.chain.proofs.Shortest.{tag_digits}
@@ -51,20 +51,20 @@ module _ (s : List ℕ) (at : ℕ) where
       let q : ahead 61 (take k rest) ≡ m = ahead_take 61 k rest ∙ omega arith in
       rw (q, take-take m k rest (omega arith), drop_take (m + 1) k rest)
 
-  none_no : field_of (before 1 rest) ≡ None → field_at s at ≡ Step.No
+  none_no : field_of (before 1 rest) ≡ None → field_at s at ≡ None
   unfolding field_at
   none_no e = rw e (go (ltb (first_of 1 s at) (length s)))
     where
-      go : (t : Bool) → cond t Step.No Step.No ≡ Step.No
+      go : (t : Bool) → cond {A = Option Step} t None None ≡ None
       go true = refl
       go false = refl
 
   -- there is no '='
-  pub no_equals : (mid : ℕ) → mid ≡ first_of 61 s at → length s ≤ mid → field_at s at ≡ Step.No
+  pub no_equals : (mid : ℕ) → mid ≡ first_of 61 s at → length s ≤ mid → field_at s at ≡ None
   no_equals mid q h = none_no (late (omega (arith, ahead_le 1 rest, length-drop at s)))
 
   -- there is no tag before it
-  pub no_tag : (mid : ℕ) → mid ≡ first_of 61 s at → ranged_of 5 1 99999 (part at mid s) ≡ None → field_at s at ≡ Step.No
+  pub no_tag : (mid : ℕ) → mid ≡ first_of 61 s at → ranged_of 5 1 99999 (part at mid s) ≡ None → field_at s at ≡ None
   no_tag mid q r =
       let w : mid - at ≡ m = omega arith in
       let u : ranged_of 5 1 99999 (take m rest) ≡ None = rw w at r in
@@ -97,7 +97,7 @@ module _ (s : List ℕ) (at : ℕ) where
     ends_at : first_of 1 s at ≡ to
     ends_at = let e : ahead 1 (drop (m + 1) rest) ≡ ahead 1 (drop (mid + 1) s) = ap (ahead 1) value_at in omega (arith, past)
 
-    by_parts : field_at s at ≡ cond (ltb to (length s)) (placed to (named (Some t) (part (mid + 1) to s))) Step.No
+    by_parts : field_at s at ≡ cond (ltb to (length s)) (placed to (named (Some t) (part (mid + 1) to s))) None
     unfolding field_at
     by_parts =
         let l : m < k = omega (arith, past) in
@@ -105,16 +105,16 @@ module _ (s : List ℕ) (at : ℕ) where
         rw (ends_at, early l, tag_read, value_at, w)
 
     -- no SOH ends it
-    pub no_end : length s ≤ to → field_at s at ≡ Step.No
+    pub no_end : length s ≤ to → field_at s at ≡ None
     no_end h = by_parts ∙ rw (le-ltb to (length s) h)
 
     -- its value is empty
-    pub no_text : to < length s → to ≡ mid + 1 → field_at s at ≡ Step.No
+    pub no_text : to < length s → to ≡ mid + 1 → field_at s at ≡ None
     no_text h q =
         let z : to - (mid + 1) ≡ 0 = omega arith in
         by_parts ∙ rw (lt-ltb to (length s) h, z)
 
-    pub a_field : to < length s → (to ≡ mid + 1 → ⊥) → field_at s at ≡ Step.Is t (mid + 1) to
+    pub a_field : to < length s → (to ≡ mid + 1 → ⊥) → field_at s at ≡ Some (step t (mid + 1) to)
     a_field h q =
         let e : mid + 1 ≤ to = omega arith in
         let l : length (part (mid + 1) to s) ≡ to - (mid + 1) = rw (length-take, length-drop) (omega arith) in

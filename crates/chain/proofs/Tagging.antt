@@ -17,9 +17,6 @@ use Rattle.digits.proofs.Ranges.{ranged_back}
 use Rattle.digits.proofs.Width.{push, whole_below}
 use Rattle.digits.proofs.Words.{is_digit_lem}
 use Rattle.chain.specs.Places.{part, first_of, field_at}
-use Rattle.chain.specs.Places.{Tells}
-use Rattle.chain.specs.declared.Step.{Step}
-use Rattle.chain.specs.declared.Tag.{Tag}
 use Rattle.chain.proofs.Ahead.{ahead_le}
 use Rattle.chain.proofs.Scan.{found, passed, unfound}
 use Rattle.chain.proofs.Reading.{no_equals, no_tag}
@@ -78,7 +75,7 @@ module _ (s : List ℕ) (at : ℕ) where
 
   module _ (i v : ℕ) (w : Reads i v) where
     -- no '=' is found
-    pub ends : length s ≤ i → field_at s at ≡ Step.No
+    pub ends : length s ≤ i → field_at s at ≡ None
     ends l = no_equals s at i (sym (unfound s i 61 l) ∙ w.same) l
 
     module _ (l : i < length s) where
@@ -93,14 +90,14 @@ module _ (s : List ℕ) (at : ℕ) where
         first_byte : at < i → get_or bytes 0 0 ≡ get_or s at 0
         first_byte g = get_or-take (first_of 61 s at - at) (drop at s) 0 0 (omega (arith, here)) ∙ get_or-drop at s 0 0 ∙ ap (λ (k : ℕ). get_or s k 0) (add-zero at)
 
-        no : ranged_of 5 1 99999 bytes ≡ None → field_at s at ≡ Step.No
+        no : ranged_of 5 1 99999 bytes ≡ None → field_at s at ≡ None
         no r = no_tag s at (first_of 61 s at) refl r
 
         five : length bytes ≤ 5
         five = omega (arith, size, here, w.few)
 
         -- there is no digit, or there are zeros only
-        pub at_zero : v ≡ 0 → field_at s at ≡ Step.No
+        pub at_zero : v ≡ 0 → field_at s at ≡ None
         at_zero z = no (go (leb 1 (length bytes)) refl)
           where
             go : (a : Bool) → leb 1 (length bytes) ≡ a → ranged_of 5 1 99999 bytes ≡ None
@@ -108,7 +105,7 @@ module _ (s : List ℕ) (at : ℕ) where
             go true p = zero_unread bytes (fit bytes 5 (leb-true 1 (length bytes) p) five (omega arith) ∙ all ∙ ap Some z)
 
         -- the first is a zero
-        pub at_leading : (v ≡ 0 → ⊥) → get_or s at 0 ≡ 48 → field_at s at ≡ Step.No
+        pub at_leading : (v ≡ 0 → ⊥) → get_or s at 0 ≡ 48 → field_at s at ≡ None
         at_leading n e = no (go (leb 2 (length bytes)) refl)
           where
             only : length bytes ≤ 1 → rest 0 bytes ≡ Some 0
@@ -168,7 +165,7 @@ module _ (s : List ℕ) (at : ℕ) where
             get_or-take (first_of 61 s at - at) (drop at s) (i - at) 0 (omega (arith, later, w.after)) ∙ get_or-drop at s (i - at) 0
             ∙ ap (λ (k : ℕ). get_or s k 0) k
 
-        too_many : 5 ≤ i - at → field_at s at ≡ Step.No
+        too_many : 5 ≤ i - at → field_at s at ≡ None
         too_many h = no_tag s at (first_of 61 s at) refl (unread bytes (long bytes 5 (omega (arith, inside)) (omega (arith, inside))))
 
         -- x is what the byte is worth
@@ -176,7 +173,7 @@ module _ (s : List ℕ) (at : ℕ) where
           worth : x ≡ bit_xor (get_or bytes (i - at) 0) 48
           worth = e ∙ ap (λ (b : ℕ). bit_xor b 48) (sym byte)
 
-          pub no_digit : 9 < x → field_at s at ≡ Step.No
+          pub no_digit : 9 < x → field_at s at ≡ None
           no_digit h = no_tag s at (first_of 61 s at) refl (unread bytes (stopped bytes (w.left ∙ other bytes (i - at) v x worth inside h)))
 
           one_more : x ≤ 9 → i - at < 5 → Reads (i + 1) (v * 10 + x)
@@ -195,20 +192,8 @@ module _ (s : List ℕ) (at : ℕ) where
         unlike : get_or s i 0 ≡ 61 → ⊥
         unlike z = let b = is_digit_lem (get_or s i 0) (omega arith) in absurd (omega arith)
 
-        pub too_long : 5 ≤ i - at → field_at s at ≡ Step.No
+        pub too_long : 5 ≤ i - at → field_at s at ≡ None
         too_long h = too_many unlike h
 
         pub goes_on_lem : i - at < 5 → Reads (i + 1) (v * 10 + x)
         goes_on_lem h = one_more unlike x e d h
-
--- ---- what was told of a tag
-pub told_no : (s : List ℕ) (at : ℕ) (r : Tag) → Tells s at r → r ≡ Tag.No → field_at s at ≡ Step.No
-told_no s at Tag.No h e = h
-told_no s at (Tag.Is t mid) h e = let z : ◌≡◌ {A = ℕ} 0 1 = cc in absurd (omega arith)
-
-pub told_is : (s : List ℕ) (at : ℕ) (r : Tag) {t mid : ℕ} → Tells s at r → r ≡ Tag.Is t mid → Tells s at (Tag.Is t mid)
-told_is s at Tag.No h e = let z : ◌≡◌ {A = ℕ} 0 1 = cc in absurd (omega arith)
-told_is s at (Tag.Is u m) {t = t} {mid = mid} h e =
-    let x : u ≡ t = cc in
-    let y : m ≡ mid = cc in
-    rw (← x, ← y) h

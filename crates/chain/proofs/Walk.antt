@@ -16,7 +16,7 @@ use Rattle.digits.proofs.Ranges.{ranged_in}
 use Rattle.text.specs.Text.{decimal, free}
 use Rattle.chain.specs.Fields.{Field, field, ahead, before, behind, named, field_of, then, closed, cut, fields_of}
 use Rattle.chain.specs.Bytes.{field_bytes, fair}
-use Rattle.chain.specs.Places.{part, first_of, placed, field_at, is_some, broken, onto, over, run, left}
+use Rattle.chain.specs.Places.{step, part, first_of, placed, field_at, is_some, broken, onto, over, run, left}
 use Rattle.chain.specs.declared.Step.{Step}
 use Rattle.chain.proofs.Ahead.{ahead_le, at_ahead, before_free, free_drop, drop_take}
 use Rattle.chain.proofs.Shortest.{ranged_whole, decimal_back}
@@ -57,9 +57,9 @@ module _ {A : Type 0} (x : Reads A) where
       go false q i = simp append_assoc at (i (omega arith))
 
   -- what a step says of what is left
-  abbrev pub after : List ℕ → Step → A
-  after s Step.No = x.bad
-  after s (Step.Is t from to) = x.more (Some (field t (part from to s))) (x.read [] (drop (to + 1) s))
+  abbrev pub after : List ℕ → Option Step → A
+  after s None = x.bad
+  after s (Some i) = x.more (Some (field i.tag (part i.from i.to s))) (x.read [] (drop (i.to + 1) s))
 
 -- ---- what a field's bytes are
 pub record Parted (p : List ℕ) (f : Field) : Type 0 where
@@ -160,9 +160,9 @@ module _ (s : List ℕ) (at : ℕ) where
         }
 
   -- what is left, by the field at its start
-  step : {A : Type 0} (x : Reads A) → at < length s → x.read [] rest ≡ after x s (field_at s at)
+  by_step : {A : Type 0} (x : Reads A) → at < length s → x.read [] rest ≡ after x s (field_at s at)
   unfolding field_at
-  step x low = go (ltb (first_of 1 s at) (length s)) refl
+  by_step x low = go (ltb (first_of 1 s at) (length s)) refl
     where
       pick : (o : Option Field) → field_of (before 1 rest) ≡ o → first_of 1 s at < length s
           → x.more o (x.read [] (drop (first_of 1 s at + 1) s)) ≡ after x s (placed (first_of 1 s at) o)
@@ -170,7 +170,7 @@ module _ (s : List ℕ) (at : ℕ) where
       pick (Some f) e l = rw (text_is f l e)
 
       go : (z : Bool) → ltb (first_of 1 s at) (length s) ≡ z
-          → x.read [] rest ≡ after x s (cond z (placed (first_of 1 s at) (field_of (before 1 rest))) Step.No)
+          → x.read [] rest ≡ after x s (cond z (placed (first_of 1 s at) (field_of (before 1 rest))) None)
       go true e =
           let l : first_of 1 s at < length s = ltb-true (first_of 1 s at) (length s) e in
           to_soh x rest [] (rw length-drop (omega arith)) ∙ rw behind_is (pick (field_of (before 1 rest)) refl l)
@@ -180,17 +180,18 @@ module _ (s : List ℕ) (at : ℕ) where
           ∙ ap x.over (drop-cons s at 0 low) ∙ x.rest (get_or s at 0) (drop (suc at) s)
 
   -- what is known of the field at a place
-  pub found : {t from to : ℕ} → field_at s at ≡ Step.Is t from to → Found s at t from to
+  pub found : {t from to : ℕ} → field_at s at ≡ Some (step t from to) → Found s at t from to
   unfolding field_at
   found {t} {from} {to} e = go (ltb (first_of 1 s at) (length s)) (field_of (before 1 rest)) refl refl e
     where
       go : (z : Bool) (o : Option Field) → ltb (first_of 1 s at) (length s) ≡ z → field_of (before 1 rest) ≡ o
-          → cond z (placed (first_of 1 s at) o) Step.No ≡ Step.Is t from to → Found s at t from to
+          → cond z (placed (first_of 1 s at) o) None ≡ Some (step t from to) → Found s at t from to
       go true None p q h = let z : ◌≡◌ {A = ℕ} 0 1 = cc in absurd (omega arith)
       go true (Some f) p q h =
-          let a : f.tag ≡ t = cc in
-          let b : first_of 1 s at - length f.text ≡ from = cc in
-          let d : first_of 1 s at ≡ to = cc in
+          let i : step f.tag (first_of 1 s at - length f.text) (first_of 1 s at) ≡ step t from to = cc in
+          let a : f.tag ≡ t = ap (λ (x : Step). x.tag) i in
+          let b : first_of 1 s at - length f.text ≡ from = ap (λ (x : Step). x.from) i in
+          let d : first_of 1 s at ≡ to = ap (λ (x : Step). x.to) i in
           rw (← a, ← b, ← d) (piece_found f (ltb-true (first_of 1 s at) (length s) p) q)
       go false o p q h = let z : ◌≡◌ {A = ℕ} 0 1 = cc in absurd (omega arith)
 
@@ -204,14 +205,14 @@ is_some_then f None = refl
 is_some_then f (Some fs) = refl
 
 module _ (s : List ℕ) (at : ℕ) where
-  pub ends : at < length s → field_at s at ≡ Step.No → is_some (fields_of (drop at s)) ≡ false
+  pub ends : at < length s → field_at s at ≡ None → is_some (fields_of (drop at s)) ≡ false
   unfolding fields_of chain
-  ends l e = rw (step s at chain l, e)
+  ends l e = rw (by_step s at chain l, e)
 
-  pub goes_on_lem : {t from to : ℕ} → at < length s → field_at s at ≡ Step.Is t from to
+  pub goes_on_lem : {t from to : ℕ} → at < length s → field_at s at ≡ Some (step t from to)
       → is_some (fields_of (drop at s)) ≡ is_some (fields_of (drop (to + 1) s))
   unfolding fields_of chain
-  goes_on_lem {t} {from} {to} l e = rw (step s at chain l, e) (is_some_then (field t (part from to s)) (fields_of (drop (to + 1) s)))
+  goes_on_lem {t} {from} {to} l e = rw (by_step s at chain l, e) (is_some_then (field t (part from to s)) (fields_of (drop (to + 1) s)))
 
   pub all_read : length s ≤ at → fields_of (drop at s) ≡ Some []
   unfolding fields_of cut
@@ -227,13 +228,13 @@ module _ (s : List ℕ) (at : ℕ) where
   unfolding run
   walked h = rw (drop_of_length-le s h)
 
-  pub left_on : {t from to : ℕ} → at < length s → field_at s at ≡ Step.Is t from to → left s at ≡ field t (part from to s) ∷ left s (to + 1)
+  pub left_on : {t from to : ℕ} → at < length s → field_at s at ≡ Some (step t from to) → left s at ≡ field t (part from to s) ∷ left s (to + 1)
   unfolding fields
-  left_on l e = step s at fields l ∙ rw e
+  left_on l e = by_step s at fields l ∙ rw e
 
-  pub left_no : at < length s → field_at s at ≡ Step.No → left s at ≡ broken ∷ []
+  pub left_no : at < length s → field_at s at ≡ None → left s at ≡ broken ∷ []
   unfolding fields
-  left_no l e = step s at fields l ∙ rw e
+  left_no l e = by_step s at fields l ∙ rw e
 
 -- the fields that are left are the chain, or end with what is none
 abbrev Comes : Option (List Field) → List Field → Type 0

@@ -6,6 +6,10 @@ use Rattle.chain.specs.Fields.{Field, field, ahead, before, field_of}
 use Rattle.chain.specs.declared.Step.{Step}
 use Rattle.chain.specs.declared.Tag.{Tag}
 
+-- a field by its tag, and where its value stands
+abbrev pub step : ℕ → ℕ → ℕ → Step
+step t from to = record { tag = t; from = from; to = to }
+
 -- the bytes from..to
 abbrev pub part : ℕ → ℕ → List ℕ → List ℕ
 part from to s = take (to - from) (drop from s)
@@ -15,18 +19,18 @@ abbrev pub first_of : ℕ → List ℕ → ℕ → ℕ
 first_of x s at = at + ahead x (drop at s)
 
 -- a field whose SOH stands at to: its value ends there
-abbrev pub placed : ℕ → Option Field → Step
-placed to None = Step.No
-placed to (Some f) = Step.Is f.tag (to - length f.text) to
+abbrev pub placed : ℕ → Option Field → Option Step
+placed to None = None
+placed to (Some f) = Some (step f.tag (to - length f.text) to)
 
 -- the field that starts at a place, up to the next SOH
-unfoldable pub field_at : List ℕ → ℕ → Step
-field_at s at = cond (ltb (first_of 1 s at) (length s)) (placed (first_of 1 s at) (field_of (before 1 (drop at s)))) Step.No
+unfoldable pub field_at : List ℕ → ℕ → Option Step
+field_at s at = cond (ltb (first_of 1 s at) (length s)) (placed (first_of 1 s at) (field_of (before 1 (drop at s)))) None
 
 -- the tag of the field that starts at a place and where its '=' stands, or that no field starts there
-abbrev pub Tells : List ℕ → ℕ → Tag → Type 0
-Tells s at Tag.No = field_at s at ≡ Step.No
-Tells s at (Tag.Is t mid) = (mid ≡ first_of 61 s at) × ((mid < length s) × (ranged_of 5 1 99999 (part at mid s) ≡ Some t))
+abbrev pub Tells : List ℕ → ℕ → Option Tag → Type 0
+Tells s at None = field_at s at ≡ None
+Tells s at (Some t) = (t.mid ≡ first_of 61 s at) × ((t.mid < length s) × (ranged_of 5 1 99999 (part at t.mid s) ≡ Some t.tag))
 
 -- whether the bytes are a chain
 abbrev pub is_some : Option (List Field) → Bool

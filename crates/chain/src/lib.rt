@@ -8,37 +8,35 @@ ghost use Rattle.chain.specs.Places.{first_of, field_at, Tells, is_some};
 
 // A field: its tag, and its value as from..to, where SOH stands at to.
 #[derive(Clone, Copy)]
-pub enum Step {
-    Is { tag: u64, from: usize, to: usize },
-    No,
+pub struct Step {
+    pub tag: u64,
+    pub from: usize,
+    pub to: usize,
 }
 
 // A tag, and where its '=' stands.
 #[derive(Clone, Copy)]
-enum Tag {
-    Is { tag: u64, mid: usize },
-    No,
+struct Tag {
+    tag: u64,
+    mid: usize,
 }
 
 const SOH: u8 = 1;
 
-const EQUALS: u8 = 61;
+const EQUALS: u8 = b'=';
 
 // A tag is at most 99,999.
 const TAG_DIGITS: usize = 5;
 
 // Where a byte first stands from a place on, or the end: one byte a turn.
 fn find_by_one(s: &[u8], at: usize, x: u8) -> usize
+    requires { at ≤ length s.now }
     ensures { result ≡ first_of x s.now at }
 {
-    let mut i = at;
-    while i < s.len() {
-        if s[i] == x {
-            return i;
-        }
-        i += 1;
+    match s[at..].iter().position(|b| *b == x) {
+        Some(k) => at + k,
+        None => s.len(),
     }
-    i
 }
 
 // The same, four bytes a turn as long as there are four.
@@ -68,71 +66,50 @@ fn find(s: &[u8], at: usize, x: u8) -> usize
 
 // The tag of the field that starts at a place, and where its '=' stands. The bytes before '=' are read in the loop that
 // finds it, and what they say is `digits::ranged` of them, from 1 to 99,999: digits' own laws show it.
-fn tag_at(s: &[u8], at: usize) -> Tag
+fn tag_at(s: &[u8], at: usize) -> Option<Tag>
     ensures { Tells s.now at result }
 {
-    let n = s.len();
     let mut v = 0u64;
-    let mut i = at;
-    while i < n {
+    for i in at..s.len() {
         let b = s[i];
         let d = digits::worth(b);
         if 9 < d {
-            if b != EQUALS {
-                return Tag::No;
+            if b != EQUALS || v == 0 || s[at] == b'0' {
+                return None;
             }
-            if v == 0 {
-                return Tag::No;
-            }
-            if s[at] == b'0' {
-                return Tag::No;
-            }
-            return Tag::Is { tag: v, mid: i };
+            return Some(Tag { tag: v, mid: i });
         }
         if TAG_DIGITS <= i - at {
-            return Tag::No;
+            return None;
         }
         v = v * 10 + d;
-        i += 1;
     }
-    Tag::No
+    None
 }
 
 // The field that starts at a place.
-pub fn field(s: &[u8], at: usize) -> Step
+pub fn field(s: &[u8], at: usize) -> Option<Step>
     ensures { result ≡ field_at s.now at }
 {
-    let n = s.len();
-    let Tag::Is { tag, mid } = tag_at(s, at) else {
-        return Step::No;
-    };
+    let Tag { tag, mid } = tag_at(s, at)?;
     let from = mid + 1;
     let to = find(s, from, SOH);
-    if n <= to {
-        return Step::No;
+    if s.len() <= to || to == from {
+        return None;
     }
-    if to == from {
-        return Step::No;
-    }
-    Step::Is { tag, from, to }
+    Some(Step { tag, from, to })
 }
 
 // Whether the bytes are a chain of fields.
 pub fn chain(s: &[u8]) -> bool
     ensures { result ≡ is_some (fields_of s.now) }
 {
-    let n = s.len();
-    let mut at: usize = 0;
-    while at < n {
-        let Step::Is {
-            tag: _,
-            from: _,
-            to,
-        } = field(s, at)
-        else {
+    let mut at = 0;
+    while at < s.len() {
+        let Some(step) = field(s, at) else {
             return false;
         };
-        at = to + 1;
+        at = step.to + 1;
     }
     true
 }

@@ -4,7 +4,7 @@ use Rattle.std.proofs.Common.{◌≡◌, ℕ, ◌+◌, ◌-◌, ◌<◌, ◌≤�
 use Rattle.digits.specs.Digits.{whole_of}
 use Rattle.digits.proofs.Width.{both, whole_below}
 use Rattle.frame.specs.Frames.{equal, is_type, typed}
-use Rattle.chain.specs.Places.{part, field_at}
+use Rattle.chain.specs.Places.{step, part, field_at}
 use Rattle.frame.specs.ByPlace.{tagged, preamble, third_of, count_of, second_of, head_of, trailer_of, sum_read, parts_in, parts_of}
 use Rattle.chain.specs.declared.Step.{Step}
 use Rattle.frame.specs.declared.Opening.{Opening}
@@ -45,47 +45,50 @@ a_type (k ∷ []) from h = refl
 a_type (k ∷ l ∷ v) from h = absurd (omega arith)
 
 -- ---- the first three fields
-pub tagged_is : (t : ℕ) (x : Step) {u from to : ℕ} → tagged t x ≡ Step.Is u from to → x ≡ Step.Is t from to
-tagged_is t Step.No e = let z : ◌≡◌ {A = ℕ} 0 1 = cc in absurd (omega arith)
-tagged_is t (Step.Is w a b) {u} {from} {to} e = go (eqb w t) refl e
+pub tagged_is : (t : ℕ) (o : Option Step) {f : Step} → tagged t o ≡ Some f → o ≡ Some (step t f.from f.to)
+tagged_is t None e = absurd (cc)
+tagged_is t (Some g) {f} e = go (eqb g.tag t) refl e
   where
-    go : (z : Bool) → eqb w t ≡ z → cond z (Step.Is w a b) Step.No ≡ Step.Is u from to → Step.Is w a b ≡ Step.Is t from to
-    go true p h = let q : w ≡ t = eqb-true w t p in cc
-    go false p h = let z : ◌≡◌ {A = ℕ} 0 1 = cc in absurd (omega arith)
+    go : (z : Bool) → eqb g.tag t ≡ z → cond z (Some g) None ≡ Some f → Some g ≡ Some (step t f.from f.to)
+    go true p h =
+        let i : g ≡ f = cc in
+        let q : g.tag ≡ t = eqb-true g.tag t p in
+        ap (λ (u : ℕ). Some (step u g.from g.to)) q ∙ ap (λ (x : Step). Some (step t x.from x.to)) i
+    go false p h = absurd (cc)
 
 -- 8, 9 whose value at low..high says v, then 35 at a place, whose value stands at from..to
 pub record Opened (s : List ℕ) (v at from to : ℕ) : Type 0 where
   pub begin : take 10 s ≡ preamble
   pub low : ℕ
   pub high : ℕ
-  pub nine : field_at s 10 ≡ Step.Is 9 low high
+  pub nine : field_at s 10 ≡ Some (step 9 low high)
   pub count : whole_of 5 (part low high s) ≡ Some v
   pub next : high + 1 ≡ at
-  pub third : field_at s at ≡ Step.Is 35 from to
+  pub third : field_at s at ≡ Some (step 35 from to)
 
 pub opened : (s : List ℕ) {v at from to : ℕ} → head_of s ≡ Opening.Is v at from to → Opened s v at from to
 unfolding head_of
 opened s {v} {at} {from} {to} e = begun (equal (take 10 s) preamble) refl e
   where
-    thirded : (n p low high : ℕ) (x : Step) → tagged 35 (field_at s p) ≡ x → take 10 s ≡ preamble → field_at s 10 ≡ Step.Is 9 low high
+    thirded : (n p low high : ℕ) (x : Option Step) → tagged 35 (field_at s p) ≡ x → take 10 s ≡ preamble → field_at s 10 ≡ Some (step 9 low high)
         → whole_of 5 (part low high s) ≡ Some n → high + 1 ≡ p
         → third_of n p x ≡ Opening.Is v at from to → Opened s v at from to
-    thirded n p low high Step.No y b f w q h = let z : ◌≡◌ {A = ℕ} 0 1 = cc in absurd (omega arith)
-    thirded n p low high (Step.Is u a c) y b f w q h =
+    thirded n p low high None y b f w q h = let z : ◌≡◌ {A = ℕ} 0 1 = cc in absurd (omega arith)
+    thirded n p low high (Some x) y b f w q h =
         let g : n ≡ v = cc in
         let i : p ≡ at = cc in
-        let j : a ≡ from = cc in
-        let k : c ≡ to = cc in
+        let j : x.from ≡ from = cc in
+        let k : x.to ≡ to = cc in
         record { begin = b; low = low; high = high; nine = f; count = w ∙ ap Some g; next = q ∙ i; third = rw (i, j, k) at (tagged_is 35 (field_at s p) y) }
 
-    counted : (low high : ℕ) (r : Option ℕ) → whole_of 5 (part low high s) ≡ r → take 10 s ≡ preamble → field_at s 10 ≡ Step.Is 9 low high
+    counted : (low high : ℕ) (r : Option ℕ) → whole_of 5 (part low high s) ≡ r → take 10 s ≡ preamble → field_at s 10 ≡ Some (step 9 low high)
         → count_of s (high + 1) r ≡ Opening.Is v at from to → Opened s v at from to
     counted low high None w b f h = let z : ◌≡◌ {A = ℕ} 0 1 = cc in absurd (omega arith)
     counted low high (Some n) w b f h = thirded n (high + 1) low high (tagged 35 (field_at s (high + 1))) refl b f w refl h
 
-    nined : (x : Step) → tagged 9 (field_at s 10) ≡ x → take 10 s ≡ preamble → second_of s x ≡ Opening.Is v at from to → Opened s v at from to
-    nined Step.No y b h = let z : ◌≡◌ {A = ℕ} 0 1 = cc in absurd (omega arith)
-    nined (Step.Is u low high) y b h = counted low high (whole_of 5 (part low high s)) refl b (tagged_is 9 (field_at s 10) y) h
+    nined : (x : Option Step) → tagged 9 (field_at s 10) ≡ x → take 10 s ≡ preamble → second_of s x ≡ Opening.Is v at from to → Opened s v at from to
+    nined None y b h = let z : ◌≡◌ {A = ℕ} 0 1 = cc in absurd (omega arith)
+    nined (Some x) y b h = counted x.from x.to (whole_of 5 (part x.from x.to s)) refl b (tagged_is 9 (field_at s 10) y) h
 
     begun : (t : Bool) → equal (take 10 s) preamble ≡ t → cond t (second_of s (tagged 9 (field_at s 10))) Opening.No ≡ Opening.Is v at from to
         → Opened s v at from to

@@ -13,25 +13,25 @@ use Rattle.frame.specs.declared.Shape.{Shape}
 use Rattle.frame.specs.declared.Framed.{Framed}
 
 -- a field of one tag
-abbrev pub tagged : ℕ → Step → Step
-tagged t Step.No = Step.No
-tagged t (Step.Is u from to) = cond (u == t) (Step.Is u from to) Step.No
+abbrev pub tagged : ℕ → Option Step → Option Step
+tagged t None = None
+tagged t (Some f) = cond (f.tag == t) (Some f) None
 
 -- 8=FIX.4.4 and its SOH
 abbrev pub preamble : List ℕ
 preamble = 56 ∷ 61 ∷ 70 ∷ 73 ∷ 88 ∷ 46 ∷ 52 ∷ 46 ∷ 52 ∷ 1 ∷ []
 
-abbrev pub third_of : ℕ → ℕ → Step → Opening
-third_of v at Step.No = Opening.No
-third_of v at (Step.Is t from to) = Opening.Is v at from to
+abbrev pub third_of : ℕ → ℕ → Option Step → Opening
+third_of v at None = Opening.No
+third_of v at (Some f) = Opening.Is v at f.from f.to
 
 abbrev pub count_of : List ℕ → ℕ → Option ℕ → Opening
 count_of s at None = Opening.No
 count_of s at (Some v) = third_of v at (tagged 35 (field_at s at))
 
-abbrev pub second_of : List ℕ → Step → Opening
-second_of s Step.No = Opening.No
-second_of s (Step.Is t from to) = count_of s (to + 1) (whole_of 5 (part from to s))
+abbrev pub second_of : List ℕ → Option Step → Opening
+second_of s None = Opening.No
+second_of s (Some f) = count_of s (f.to + 1) (whole_of 5 (part f.from f.to s))
 
 -- 8 and 9, what 9 says, where 35 starts, and its value
 unfoldable pub head_of : List ℕ → Opening

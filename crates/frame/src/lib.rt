@@ -89,16 +89,11 @@ pub fn same(a: &[u8], b: &[u8]) -> bool
 }
 
 // The field that starts at a place, if it has this tag.
-fn field_of(s: &[u8], at: usize, tag: u64) -> Step
+fn field_of(s: &[u8], at: usize, tag: u64) -> Option<Step>
     ensures { result ≡ tagged tag (field_at s.now at) }
 {
-    let Step::Is { tag: t, from, to } = chain::field(s, at) else {
-        return Step::No;
-    };
-    if t != tag {
-        return Step::No;
-    }
-    Step::Is { tag: t, from, to }
+    let field = chain::field(s, at)?;
+    if field.tag == tag { Some(field) } else { None }
 }
 
 // Whether 8=FIX.4.4 stands first.
@@ -118,19 +113,14 @@ fn head(s: &[u8]) -> Opening
     if !begins(s) {
         return Opening::No;
     }
-    let Step::Is {
-        tag: _,
-        from: a,
-        to: e,
-    } = field_of(s, BEGIN_BYTES, 9)
-    else {
+    let Some(nine) = field_of(s, BEGIN_BYTES, 9) else {
         return Opening::No;
     };
-    let Some(count) = digits::whole(&s[a..e], 5) else {
+    let Some(count) = digits::whole(&s[nine.from..nine.to], 5) else {
         return Opening::No;
     };
-    let at = e + 1;
-    let Step::Is { tag: _, from, to } = field_of(s, at, 35) else {
+    let at = nine.to + 1;
+    let Some(Step { tag: _, from, to }) = field_of(s, at, 35) else {
         return Opening::No;
     };
     Opening::Is {

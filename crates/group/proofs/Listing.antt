@@ -19,8 +19,7 @@ use Rattle.cells.specs.Runs.{updates_in}
 use Rattle.cells.proofs.Tables.{length_tab}
 use Rattle.cells.proofs.Runs.{no_updates, one_more}
 use Rattle.chain.specs.Fields.{Field, field}
-use Rattle.chain.specs.Places.{part, field_at, broken, left}
-use Rattle.chain.specs.declared.Step.{Step}
+use Rattle.chain.specs.Places.{step, part, field_at, broken, left}
 use Rattle.chain.proofs.Walk.{walked, left_on, left_no, found}
 use Rattle.tags.specs.Tags.{named_tags, has, stands, tidy, up_to, lookup}
 use Rattle.tags.specs.Slots.{slot_of, below, between, no_marks, marked, strays, Holds}
@@ -167,12 +166,12 @@ module _ (s : List ℕ) (start count depth : ℕ) (t : Top) where
     some_missing l z = w.same ∙ ap (outside depth t more next said) (walked s at l) ∙ too_few depth t more next said z
 
     -- bytes that are no field
-    pub torn : at < length s → field_at s at ≡ Step.No → whole ≡ None
+    pub torn : at < length s → field_at s at ≡ None → whole ≡ None
     torn l e =
         w.same ∙ ap (outside depth t more next said) (left_no s at l e)
         ∙ not_there depth t more next said broken [] (broken_apart t w.fair).0 broken_named
 
-    module _ (tag from to : ℕ) (l : at < length s) (step : field_at s at ≡ Step.Is tag from to) where
+    module _ (tag from to : ℕ) (l : at < length s) (step : field_at s at ≡ Some (step tag from to)) where
       abbrev f : Field
       f = field tag (part from to s)
 
@@ -238,12 +237,12 @@ module _ (s : List ℕ) (start count depth : ℕ) (t : Top) where
       breach q k e h = next_field ∙ breaks depth t more next so_far w.passed f fs q (test k e ∙ ap not h)
 
     -- bytes that are no field
-    pub torn_in : at < length s → field_at s at ≡ Step.No → whole ≡ None
+    pub torn_in : at < length s → field_at s at ≡ None → whole ≡ None
     torn_in l e =
         let b = broken_apart t w.fair in
         breach broken [] (left_no s at l e) b.0 (slot_of 8) refl (broken_strays 21 t.low 20 (get_or m.to (slot_of 8) 0) b.1)
 
-    module _ (tag from to : ℕ) (l : at < length s) (step : field_at s at ≡ Step.Is tag from to) where
+    module _ (tag from to : ℕ) (l : at < length s) (step : field_at s at ≡ Some (step tag from to)) where
       abbrev g : Field
       g = field tag (part from to s)
 

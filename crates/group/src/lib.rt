@@ -32,7 +32,7 @@ pub fn listed(s: &[u8], start: usize, count: u64, depth: u64, t: Top, run: &mut 
             good = more == 0;
             break 'entries;
         }
-        let Step::Is { tag, from, to } = chain::field(s, at) else {
+        let Some(Step { tag, from, to }) = chain::field(s, at) else {
             break 'entries;
         };
         at = to + 1;
@@ -51,11 +51,11 @@ pub fn listed(s: &[u8], start: usize, count: u64, depth: u64, t: Top, run: &mut 
         m.from[k] = from;
         m.to[k] = to;
         while at < end {
-            let Step::Is {
+            let Some(Step {
                 tag: g,
                 from: f,
                 to: e,
-            } = chain::field(s, at)
+            }) = chain::field(s, at)
             else {
                 break 'entries;
             };

@@ -15,8 +15,7 @@ use Rattle.message.specs.Message.{Head, Message, numbered, snapshot, refused, to
 use Rattle.message.specs.declared.Refusal.TheVariants.{BadFields}
 use Rattle.message.specs.declared.Verdict.TheVariants.{Numbered, Snapshot}
 use Rattle.chain.specs.Fields.{Field}
-use Rattle.chain.specs.Places.{part, field_at, left}
-use Rattle.chain.specs.declared.Step.{Step}
+use Rattle.chain.specs.Places.{step, part, field_at, left}
 use Rattle.chain.proofs.Walk.{left_on, left_no, walked, all_tagged}
 use Rattle.tags.specs.Tags.{named_tags, other_tags, head_x, head_w, entry_x, entry_w, has, tidy, all_tidy, up_to, past, onward, parts, lookup}
 use Rattle.tags.specs.Slots.{slot_of, below, between, marked, Holds}
@@ -111,11 +110,11 @@ module _ (s : List ℕ) (start depth : ℕ) (t : Top) where
   no_group l = rw (walked s start l)
 
   -- bytes that are no field: no bytes are no number
-  pub torn_count : start < length s → field_at s start ≡ Step.No → counted depth t (left s start) ≡ None
+  pub torn_count : start < length s → field_at s start ≡ None → counted depth t (left s start) ≡ None
   unfolding counted
   torn_count l e = rw (left_no s start l e, no_count)
 
-  module _ (tag from to : ℕ) (l : start < length s) (step : field_at s start ≡ Step.Is tag from to) where
+  module _ (tag from to : ℕ) (l : start < length s) (step : field_at s start ≡ Some (step tag from to)) where
     pub bad_count : ranged_of 2 0 64 (part from to s) ≡ None → counted depth t (left s start) ≡ None
     unfolding counted
     bad_count e = rw (left_on s start l step, e)

@@ -8,8 +8,7 @@ use borrow.Author.Tests.{le-leb, lt-leb, eq-eqb, ne_eqb}
 use lib.ListN.{length}
 use Rattle.digits.specs.Digits.{ranged_of}
 use Rattle.message.specs.declared.Verdict.TheVariants.{Numbered}
-use Rattle.chain.specs.Places.{part, field_at, left}
-use Rattle.chain.specs.declared.Step.{Step}
+use Rattle.chain.specs.Places.{step, part, field_at, left}
 use Rattle.tags.specs.Slots.{no_marks, marked}
 use Rattle.place.specs.Walks.{walk_on}
 use Rattle.place.specs.declared.Place.{Place}
@@ -25,11 +24,11 @@ module _ (s : List ℕ) (start : ℕ) (t : Top) where
   none_led l = rw (le-leb (length s) start l)
 
   module _ (l : start < length s) where
-    pub torn_led : field_at s start ≡ Step.No → breach_lead s ≡ counted_lead s start t
+    pub torn_led : field_at s start ≡ None → breach_lead s ≡ counted_lead s start t
     unfolding counted_lead
     torn_led e = rw (lt-leb (length s) start l, e)
 
-    module _ {tag from to : ℕ} (e : field_at s start ≡ Step.Is tag from to) where
+    module _ {tag from to : ℕ} (e : field_at s start ≡ Some (step tag from to)) where
       pub bad_led : ranged_of 2 0 64 (part from to s) ≡ None → breach_lead s ≡ counted_lead s start t
       unfolding counted_lead
       bad_led q = rw (lt-leb (length s) start l, e, q)

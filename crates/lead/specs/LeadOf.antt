@@ -33,9 +33,9 @@ abbrev pub count_read : List ℕ → Top → ℕ → Option ℕ → Lead
 count_read s t at None = breach_lead s
 count_read s t at (Some n) = record { top = t; at = at; count = n }
 
-abbrev pub count_found : List ℕ → Top → Step → Lead
-count_found s t Step.No = breach_lead s
-count_found s t (Step.Is tag from to) = count_read s t (to + 1) (ranged_of 2 0 64 (part from to s))
+abbrev pub count_found : List ℕ → Top → Option Step → Lead
+count_found s t None = breach_lead s
+count_found s t (Some f) = count_read s t (f.to + 1) (ranged_of 2 0 64 (part f.from f.to s))
 
 unfoldable pub counted_lead : List ℕ → ℕ → Top → Lead
 counted_lead s start t = cond (leb (length s) start) (breach_lead s) (count_found s t (field_at s start))

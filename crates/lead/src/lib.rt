@@ -146,7 +146,7 @@ fn counted(s: &[u8], start: usize, t: Top) -> Lead
     if s.len() <= start {
         return breach(s);
     }
-    let Step::Is { tag: _, from, to } = chain::field(s, start) else {
+    let Some(Step { tag: _, from, to }) = chain::field(s, start) else {
         return breach(s);
     };
     let Some(count) = digits::ranged(&s[from..to], 2, 0, 64) else {

@@ -10,8 +10,7 @@ use lib.Dec.{ltb, leb, eqb}
 use lib.ListN.{length, get_or, set, length-append, length-take, length-drop}
 use Rattle.digits.proofs.Width.{both}
 use Rattle.chain.specs.Fields.{Field, field}
-use Rattle.chain.specs.Places.{part, field_at, broken, left}
-use Rattle.chain.specs.declared.Step.{Step}
+use Rattle.chain.specs.Places.{step, part, field_at, broken, left}
 use Rattle.chain.proofs.Walk.{walked, left_on, left_no, found}
 use Rattle.tags.specs.Tags.{tidy, up_to, onward}
 use Rattle.tags.specs.Slots.{slot_of, below, between, no_marks, strays, breaks, Holds}
@@ -93,13 +92,13 @@ module _ (s : List ℕ) (start stop named low high : ℕ) where
           tells = rw (w.same, q, split_stray stop named low high w.passed w.tidy f fs other no) refl;
         }
 
-    pub tells_broken : at < length s → field_at s at ≡ Step.No → Walk s start stop named low high (record { ok = false; at = at; marks = m })
+    pub tells_broken : at < length s → field_at s at ≡ None → Walk s start stop named low high (record { ok = false; at = at; marks = m })
     tells_broken l e =
         let b = both (not (eqb 8 stop)) (strays 0 named low high 0) w.breaks in
         strayed broken [] (left_no s at l e) (eqb-false 8 stop (not-true (eqb 8 stop) b.0))
         (broken_strays named low high (get_or m.to (slot_of 8) 0) b.1)
 
-    module _ (tag from to : ℕ) (l : at < length s) (step : field_at s at ≡ Step.Is tag from to) where
+    module _ (tag from to : ℕ) (l : at < length s) (step : field_at s at ≡ Some (step tag from to)) where
       abbrev f : Field
       f = field tag (part from to s)
 

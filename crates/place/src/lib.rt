@@ -27,7 +27,7 @@ pub fn walk(s: &[u8], start: usize, stop: u64, named: usize, low: usize, high: u
     let mut m = tags::no_marks();
     let mut at = start;
     while at < end {
-        let Step::Is { tag, from, to } = chain::field(s, at) else {
+        let Some(Step { tag, from, to }) = chain::field(s, at) else {
             return Place {
                 ok: false,
                 at,

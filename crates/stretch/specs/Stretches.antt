@@ -34,9 +34,9 @@ abbrev pub length_by : ℕ → Option ℕ → ℕ
 length_by to None = 0
 length_by to (Some v) = to + 1 + v + 7
 
-abbrev pub nine_by : List ℕ → Step → ℕ
-nine_by h Step.No = 0
-nine_by h (Step.Is t from to) = length_by to (whole_of 5 (part from to h))
+abbrev pub nine_by : List ℕ → Option Step → ℕ
+nine_by h None = 0
+nine_by h (Some f) = length_by f.to (whole_of 5 (part f.from f.to h))
 
 -- 8=FIX.4.4 and SOH, then 9; the first 18 bytes hold both
 unfoldable pub named_of : List ℕ → ℕ

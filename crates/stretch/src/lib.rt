@@ -28,7 +28,7 @@ fn named(h: &[u8]) -> usize
     if !frame::begins(h) {
         return 0;
     }
-    let Step::Is { tag, from, to } = chain::field(h, frame::BEGIN_BYTES) else {
+    let Some(Step { tag, from, to }) = chain::field(h, frame::BEGIN_BYTES) else {
         return 0;
     };
     if tag != 9 {

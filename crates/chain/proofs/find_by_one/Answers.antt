@@ -1,16 +1,13 @@
--- `chain::find_by_one` meets its contract: the first x from i on is the first from the start on. Assumes nothing.
-use mathlib.Core.Path.{refl, sym, ◌∙◌}
-use Rattle.chain.proofs.Scan.{found, passed, unfound}
+-- `chain::find_by_one` meets its contract: the position in the bytes from a place on is how far the first x is. Assumes nothing.
+use Rattle.std.proofs.Common.{rules, tests}
+use Rattle.std.proofs.lemmas.Iterator.{YieldsList-from_slice}
+use Rattle.std.proofs.lemmas.Iterator.Search.{position_from_yields_List}
+use lib.Dec.{eqb}
+use Rattle.chain.proofs.Scan.{first_is, none_first}
 use Rattle.chain.proofs.find_by_one.Goals as goal
 
-pub loop-i-init : goal.loop-i-init
-loop-i-init c = refl
+pub returns-in-Some : goal.returns-in-Some
+returns-in-Some c = first_is _ _ _ c.requires _ (position_from_yields_List (λ b. eqb b c.args.x) _ _ c.position.result c.position.ensures.ran (YieldsList-from_slice _ c.iter.ensures.rest) (λ x b q k. search (rules, tests))) _ c.in-Some.is
 
-pub returns-then-s-i : goal.returns-then-s-i
-returns-then-s-i c = sym (found _ _ _ c.loop-i-test.true c.if-s-i.true) ∙ c.loop-i.invariant
-
-pub loop-i-preserved : goal.loop-i-preserved
-loop-i-preserved c = passed _ _ _ c.loop-i-test.true c.if-s-i.false ∙ c.loop-i.invariant
-
-pub returns : goal.returns
-returns c = sym (unfound _ _ _ c.loop-i-test.false) ∙ c.loop-i.invariant
+pub returns-in-None : goal.returns-in-None
+returns-in-None c = none_first _ _ _ c.requires _ (position_from_yields_List (λ b. eqb b c.args.x) _ _ c.position.result c.position.ensures.ran (YieldsList-from_slice _ c.iter.ensures.rest) (λ x b q k. search (rules, tests))) c.in-None.is

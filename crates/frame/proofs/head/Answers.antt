@@ -19,17 +19,17 @@ returns-in_default c =
 
 pub slice_bounds-whole-count : goal.slice_bounds-whole-count
 slice_bounds-whole-count c =
-    let f = found _ _ (tagged_is 9 _ (sym c.in-Is.ensures)) in
+    let f = found _ _ (tagged_is 9 _ (sym c.in-Some.ensures)) in
     omega (arith, f.some, f.high)
 
 pub slice_bounds-whole-start : goal.slice_bounds-whole-start
 slice_bounds-whole-start c =
-    let f = found _ _ (tagged_is 9 _ (sym c.in-Is.ensures)) in
+    let f = found _ _ (tagged_is 9 _ (sym c.in-Some.ensures)) in
     omega (arith, f.some, f.high)
 
 pub slice_bounds-whole-end : goal.slice_bounds-whole-end
 slice_bounds-whole-end c =
-    let f = found _ _ (tagged_is 9 _ (sym c.in-Is.ensures)) in
+    let f = found _ _ (tagged_is 9 _ (sym c.in-Some.ensures)) in
     omega (arith, f.some, f.high)
 
 pub returns-in_default-whole : goal.returns-in_default-whole
@@ -37,13 +37,13 @@ unfolding head_of
 returns-in_default-whole c =
     rw (
       sym c.begins.ensures ∙ c.if-not-begins.false,
-      sym c.in-Is.ensures,
+      sym c.in-Some.ensures,
       sym c.in_default-whole.ensures,
     )
 
 pub overflow_add-at : goal.overflow_add-at
 overflow_add-at c =
-    let f = found _ _ (tagged_is 9 _ (sym c.in-Is.ensures)) in
+    let f = found _ _ (tagged_is 9 _ (sym c.in-Some.ensures)) in
     omega (arith, f.high)
 
 pub returns-in_default-field_of : goal.returns-in_default-field_of
@@ -51,8 +51,8 @@ unfolding head_of
 returns-in_default-field_of c =
     rw (
       sym c.begins.ensures ∙ c.if-not-begins.false,
-      sym c.in-Is.ensures,
       sym c.in-Some.ensures,
+      sym c.in-Some-whole.ensures,
       sym c.in_default-field_of.ensures,
     )
 
@@ -61,7 +61,7 @@ unfolding head_of
 returns c =
     rw (
       sym c.begins.ensures ∙ c.if-not-begins.false,
-      sym c.in-Is.ensures,
       sym c.in-Some.ensures,
-      sym c.in-Is-field_of.ensures,
+      sym c.in-Some-whole.ensures,
+      sym c.in-Some-field_of.ensures,
     )

@@ -12,15 +12,15 @@ use Rattle.cells.specs.Runs.{updates_in}
 use Rattle.group.specs.Listed.{grouped}
 use Rattle.group.proofs.Reading.{spared_all, spared_more}
 use Rattle.group.proofs.Listing.{group_reads, none_reads, Ended, at_trailer, at_refusal, lists_start, all_there, some_missing, torn, early, lists_skip, no_more, lists_enter, torn_in, strayed, enters_more, stops_first, stops_end, ended_bad, ended_passed, ended_said}
-use Rattle.group.proofs.listed.Goals.{Left-loop-at, Joined-end-at, then-end-at, else-end-at+in_default, else-end-at+in-Is+then-tag-first+then-k-lt-NAMED, else-end-at+in-Is+else-tag-first+then-more-eq0, else-end-at+in-Is+else-tag-first+else-more-eq0+then-loop-at-test+in_default-field, else-end-at+in-Is+else-tag-first+else-more-eq0+then-loop-at-test+in-Is-field+else-g-first+then-stray, else-end-at+in-Is+else-tag-first+else-more-eq0+in-Bad, else-loop-at-test, then-loop-at-test+in-Is-field+then-g-first}
+use Rattle.group.proofs.listed.Goals.{Left-loop-at, Joined-end-at, then-end-at, else-end-at+in_default, else-end-at+in-Some+then-tag-first+then-k-lt-NAMED, else-end-at+in-Some+else-tag-first+then-more-eq0, else-end-at+in-Some+else-tag-first+else-more-eq0+then-loop-at-test+in_default-field, else-end-at+in-Some+else-tag-first+else-more-eq0+then-loop-at-test+in-Some-field+else-g-first+then-stray, else-end-at+in-Some+else-tag-first+else-more-eq0+in-Bad, else-loop-at-test, then-loop-at-test+in-Some-field+then-g-first}
 use Rattle.group.proofs.listed.Goals as goal
 
 -- an entry ends at the next one's first tag, or at the trailer
 stopped : (c : Left-loop-at) → up_to c.args.t.first (left c.args.s.now c.loop-at.at) ≡ []
 stopped c = elim c.loop-at-test.branch [
   | else-loop-at-test w ↦ stops_end _ _ _ _ _ _ _ _ _ _ _ _ _ c.loop-at.invariant w.loop-at-test.false
-  | then-loop-at-test+in-Is-field+then-g-first w ↦
-      stops_first _ _ _ _ _ _ _ _ _ _ _ _ _ c.loop-at.invariant _ _ _ w.loop-at-test.true (sym w.in-Is-field.ensures) w.if-g-first.true
+  | then-loop-at-test+in-Some-field+then-g-first w ↦
+      stops_first _ _ _ _ _ _ _ _ _ _ _ _ _ c.loop-at.invariant _ _ _ w.loop-at-test.true (sym w.in-Some-field.ensures) w.if-g-first.true
 ]
 
 -- the walk ends at the trailer, or at a breach
@@ -31,20 +31,20 @@ ended c =
     elim c.if-end-at.branch [
       | then-end-at w ↦ at_trailer _ _ _ _ w.good-is (λ z. all_there _ _ _ _ _ _ _ _ _ _ _ v w.if-end-at.true z) (λ z. some_missing _ _ _ _ _ _ _ _ _ _ _ v w.if-end-at.true z)
       | else-end-at+in_default w ↦ at_refusal _ _ _ (w.good-is ∙ v.bad) (torn _ _ _ _ _ _ _ _ _ _ _ v w.if-end-at.false (sym w.in_default.ensures))
-      | else-end-at+in-Is+then-tag-first+then-k-lt-NAMED w ↦
-          at_refusal _ _ _ (w.good-is ∙ v.bad) (early _ _ _ _ _ _ _ _ _ _ _ v _ _ _ w.if-end-at.false (sym w.in-Is.ensures) w.if-tag-first.true _ w.slot-k.ensures.0 w.if-k-lt-NAMED.true)
-      | else-end-at+in-Is+else-tag-first+then-more-eq0 w ↦
-          at_refusal _ _ _ (w.good-is ∙ v.bad) (no_more _ _ _ _ _ _ _ _ _ _ _ v _ _ _ w.if-end-at.false (sym w.in-Is.ensures) w.if-tag-first.false w.if-more-eq0.true)
-      | else-end-at+in-Is+else-tag-first+else-more-eq0+then-loop-at-test+in_default-field w ↦
+      | else-end-at+in-Some+then-tag-first+then-k-lt-NAMED w ↦
+          at_refusal _ _ _ (w.good-is ∙ v.bad) (early _ _ _ _ _ _ _ _ _ _ _ v _ _ _ w.if-end-at.false (sym w.in-Some.ensures) w.if-tag-first.true _ w.slot-k.ensures.0 w.if-k-lt-NAMED.true)
+      | else-end-at+in-Some+else-tag-first+then-more-eq0 w ↦
+          at_refusal _ _ _ (w.good-is ∙ v.bad) (no_more _ _ _ _ _ _ _ _ _ _ _ v _ _ _ w.if-end-at.false (sym w.in-Some.ensures) w.if-tag-first.false w.if-more-eq0.true)
+      | else-end-at+in-Some+else-tag-first+else-more-eq0+then-loop-at-test+in_default-field w ↦
           at_refusal _ _ _ (w.good-is ∙ v.bad) (torn_in _ _ _ _ _ _ _ _ _ _ _ _ _ w.loop-at.invariant w.loop-at-test.true (sym w.in_default-field.ensures))
-      | else-end-at+in-Is+else-tag-first+else-more-eq0+then-loop-at-test+in-Is-field+else-g-first+then-stray w ↦
-          at_refusal _ _ _ (w.good-is ∙ v.bad) (strayed _ _ _ _ _ _ _ _ _ _ _ _ _ w.loop-at.invariant _ _ _ w.loop-at-test.true (sym w.in-Is-field.ensures) w.if-g-first.false _ w.slot-j.ensures.0 (sym w.stray.ensures ∙ w.if-stray.true))
-      | else-end-at+in-Is+else-tag-first+else-more-eq0+in-Bad w ↦
+      | else-end-at+in-Some+else-tag-first+else-more-eq0+then-loop-at-test+in-Some-field+else-g-first+then-stray w ↦
+          at_refusal _ _ _ (w.good-is ∙ v.bad) (strayed _ _ _ _ _ _ _ _ _ _ _ _ _ w.loop-at.invariant _ _ _ w.loop-at-test.true (sym w.in-Some-field.ensures) w.if-g-first.false _ w.slot-j.ensures.0 (sym w.stray.ensures ∙ w.if-stray.true))
+      | else-end-at+in-Some+else-tag-first+else-more-eq0+in-Bad w ↦
           at_refusal _ _ _ (w.good-is ∙ v.bad) (ended_bad _ _ _ _ _ _ _ _ _ _ _ _ _ w.loop-at.invariant
           (elim w.loop-at-test.branch [
             | else-loop-at-test z ↦ stops_end _ _ _ _ _ _ _ _ _ _ _ _ _ w.loop-at.invariant z.loop-at-test.false
-            | then-loop-at-test+in-Is-field+then-g-first z ↦
-                stops_first _ _ _ _ _ _ _ _ _ _ _ _ _ w.loop-at.invariant _ _ _ z.loop-at-test.true (sym z.in-Is-field.ensures) z.if-g-first.true
+            | then-loop-at-test+in-Some-field+then-g-first z ↦
+                stops_first _ _ _ _ _ _ _ _ _ _ _ _ _ w.loop-at.invariant _ _ _ z.loop-at-test.true (sym z.in-Some-field.ensures) z.if-g-first.true
           ])
           (said_bad _ (sym w.in-Bad.ensures)))
     ]
@@ -53,15 +53,15 @@ pub entries-init : goal.entries-init
 entries-init c = let p = c.requires in (lists_start _ _ _ _ _ _ p.1.1 p.0 p.1.0, spared_all _)
 
 pub overflow_add-at : goal.overflow_add-at
-overflow_add-at c = let f = found _ _ (sym c.in-Is.ensures) in omega (arith, f.high)
+overflow_add-at c = let f = found _ _ (sym c.in-Some.ensures) in omega (arith, f.high)
 
 pub entries-smaller-then-tag-first : goal.entries-smaller-then-tag-first
 entries-smaller-then-tag-first c =
-    let f = found _ _ (sym c.in-Is.ensures) in omega (arith, f.low, f.some, f.high)
+    let f = found _ _ (sym c.in-Some.ensures) in omega (arith, f.low, f.some, f.high)
 
 pub entries-preserved-then-tag-first : goal.entries-preserved-then-tag-first
 entries-preserved-then-tag-first c =
-    (lists_skip _ _ _ _ _ _ _ _ _ _ _ c.entries.invariant.0 _ _ _ c.if-end-at.false (sym c.in-Is.ensures) c.if-tag-first.true _ c.slot-k.ensures.0 c.if-k-lt-NAMED.false, c.entries.invariant.1)
+    (lists_skip _ _ _ _ _ _ _ _ _ _ _ c.entries.invariant.0 _ _ _ c.if-end-at.false (sym c.in-Some.ensures) c.if-tag-first.true _ c.slot-k.ensures.0 c.if-k-lt-NAMED.false, c.entries.invariant.1)
 
 pub bounds-m-k : goal.bounds-m-k
 bounds-m-k c =
@@ -73,7 +73,7 @@ bounds-m-k-in-entries c =
 
 pub loop-at-init : goal.loop-at-init
 loop-at-init c =
-    lists_enter _ _ _ _ _ _ _ _ _ _ _ c.entries.invariant.0 _ _ _ c.if-end-at.false (sym c.in-Is.ensures) c.if-tag-first.false c.if-more-eq0.false _ c.slot-k.ensures.0 c.slot-k.ensures.1 _ c.no_marks-m.ensures
+    lists_enter _ _ _ _ _ _ _ _ _ _ _ c.entries.invariant.0 _ _ _ c.if-end-at.false (sym c.in-Some.ensures) c.if-tag-first.false c.if-more-eq0.false _ c.slot-k.ensures.0 c.slot-k.ensures.1 _ c.no_marks-m.ensures
 
 pub bounds-m-j : goal.bounds-m-j
 bounds-m-j c = omega (arith, c.loop-at.invariant.holds.tos, c.slot-j.ensures.1)
@@ -86,19 +86,19 @@ bounds-m-j-in-loop-at-2 c = omega (arith, c.loop-at.invariant.holds.tos, c.slot-
 
 pub overflow_add-at-in-loop-at : goal.overflow_add-at-in-loop-at
 overflow_add-at-in-loop-at c =
-    let f = found _ _ (sym c.in-Is-field.ensures) in omega (arith, f.high, c.well_formed.0.0)
+    let f = found _ _ (sym c.in-Some-field.ensures) in omega (arith, f.high, c.well_formed.0.0)
 
 pub loop-at-smaller : goal.loop-at-smaller
 loop-at-smaller c =
-    let f = found _ _ (sym c.in-Is-field.ensures) in omega (arith, f.low, f.some, f.high)
+    let f = found _ _ (sym c.in-Some-field.ensures) in omega (arith, f.low, f.some, f.high)
 
 pub loop-at-preserved : goal.loop-at-preserved
 loop-at-preserved c =
-    enters_more _ _ _ _ _ _ _ _ _ _ _ _ _ c.loop-at.invariant _ _ _ c.loop-at-test.true (sym c.in-Is-field.ensures) c.if-g-first.false _ c.slot-j.ensures.0 (sym c.stray.ensures ∙ c.if-stray.false) c.slot-j.ensures.1
+    enters_more _ _ _ _ _ _ _ _ _ _ _ _ _ c.loop-at.invariant _ _ _ c.loop-at-test.true (sym c.in-Some-field.ensures) c.if-g-first.false _ c.slot-j.ensures.0 (sym c.stray.ensures ∙ c.if-stray.false) c.slot-j.ensures.1
 
 pub entries-smaller-in-Passed : goal.entries-smaller-in-Passed
 entries-smaller-in-Passed c =
-    let f = found _ _ (sym c.in-Is.ensures) in omega (arith, f.low, f.some, c.if-end-at.false, c.loop-at.invariant.onward)
+    let f = found _ _ (sym c.in-Some.ensures) in omega (arith, f.low, f.some, c.if-end-at.false, c.loop-at.invariant.onward)
 
 pub entries-preserved-in-Passed : goal.entries-preserved-in-Passed
 entries-preserved-in-Passed c =
@@ -118,12 +118,12 @@ next_after-next-requires c = let w = c.loop-at.invariant in omega (arith, w.spac
 
 pub entries-smaller : goal.entries-smaller
 entries-smaller c =
-    let f = found _ _ (sym c.in-Is.ensures) in omega (arith, f.low, f.some, c.if-end-at.false, c.loop-at.invariant.onward)
+    let f = found _ _ (sym c.in-Some.ensures) in omega (arith, f.low, f.some, c.if-end-at.false, c.loop-at.invariant.onward)
 
 pub entries-preserved : goal.entries-preserved
 entries-preserved c =
     let saved = c.save_update in
-    (ended_said _ _ _ _ _ _ _ _ _ _ _ _ _ c.loop-at.invariant (stopped (goal.at.entries-preserved c).Left-loop-at) _ (said_is _ (sym c.in-Is-said.ensures)) _ c.next_after-next.ensures _ saved.ensures, spared_more _ _ (omega (arith, c.loop-at.invariant.space)) saved.ensures c.entries.invariant.1)
+    (ended_said _ _ _ _ _ _ _ _ _ _ _ _ _ c.loop-at.invariant (stopped (goal.at.entries-preserved c).Left-loop-at) _ (said_is _ (sym c.in-Is.ensures)) _ c.next_after-next.ensures _ saved.ensures, spared_more _ _ (omega (arith, c.loop-at.invariant.space)) saved.ensures c.entries.invariant.1)
 
 pub shape_of-run-then-not-good : goal.shape_of-run-then-not-good
 shape_of-run-then-not-good c = c.entries.invariant.1.size

@@ -14,14 +14,14 @@ returns-in_default c =
 
 pub returns-then-tag-stop : goal.returns-then-tag-stop
 returns-then-tag-stop c =
-    tells_stop _ _ _ _ _ _ _ _ c.loop-at.invariant _ _ _ c.loop-at-test.true (sym c.in-Is.ensures) c.if-tag-stop.true
+    tells_stop _ _ _ _ _ _ _ _ c.loop-at.invariant _ _ _ c.loop-at-test.true (sym c.in-Some.ensures) c.if-tag-stop.true
 
 pub bounds-m-k : goal.bounds-m-k
 bounds-m-k c = omega (arith, c.loop-at.invariant.holds.tos)
 
 pub returns-then-stray : goal.returns-then-stray
 returns-then-stray c =
-    tells_stray _ _ _ _ _ _ _ _ c.loop-at.invariant _ _ _ c.loop-at-test.true (sym c.in-Is.ensures) c.if-tag-stop.false _ c.slot-k.ensures.0 (sym c.stray.ensures ∙ c.if-stray.true)
+    tells_stray _ _ _ _ _ _ _ _ c.loop-at.invariant _ _ _ c.loop-at-test.true (sym c.in-Some.ensures) c.if-tag-stop.false _ c.slot-k.ensures.0 (sym c.stray.ensures ∙ c.if-stray.true)
 
 pub bounds-m-k-in-loop-at : goal.bounds-m-k-in-loop-at
 bounds-m-k-in-loop-at c = omega (arith, c.loop-at.invariant.holds.froms)
@@ -30,14 +30,14 @@ pub bounds-m-k-in-loop-at-2 : goal.bounds-m-k-in-loop-at-2
 bounds-m-k-in-loop-at-2 c = omega (arith, c.loop-at.invariant.holds.tos)
 
 pub overflow_add-at : goal.overflow_add-at
-overflow_add-at c = let f = found _ _ (sym c.in-Is.ensures) in omega (arith, f.high)
+overflow_add-at c = let f = found _ _ (sym c.in-Some.ensures) in omega (arith, f.high)
 
 pub loop-at-smaller : goal.loop-at-smaller
-loop-at-smaller c = let f = found _ _ (sym c.in-Is.ensures) in omega (arith, f.low, f.some, f.high)
+loop-at-smaller c = let f = found _ _ (sym c.in-Some.ensures) in omega (arith, f.low, f.some, f.high)
 
 pub loop-at-preserved : goal.loop-at-preserved
 loop-at-preserved c =
-    walk_more _ _ _ _ _ _ _ _ c.loop-at.invariant _ _ _ c.loop-at-test.true (sym c.in-Is.ensures) c.if-tag-stop.false _ c.slot-k.ensures.0 (sym c.stray.ensures ∙ c.if-stray.false) c.slot-k.ensures.1
+    walk_more _ _ _ _ _ _ _ _ c.loop-at.invariant _ _ _ c.loop-at-test.true (sym c.in-Some.ensures) c.if-tag-stop.false _ c.slot-k.ensures.0 (sym c.stray.ensures ∙ c.if-stray.false) c.slot-k.ensures.1
 
 pub returns : goal.returns
 returns c = tells_end _ _ _ _ _ _ _ _ c.loop-at.invariant c.loop-at-test.false
