@@ -19,38 +19,58 @@ pub struct Heading {
     pub queued: usize,
 }
 
+// Whether mark i of m is set.
+#[tactic(auto, unfolding(crate::specs::Marks::marked))]
+pub fn marked(m: u16, i: usize) -> bool
+    requires { i < 16 }
+    ensures { result ≡ marked m i }
+{
+    (m >> i) % 2 == 1
+}
+
+// m with mark i set.
+pub fn with_mark(m: u16, i: usize) -> u16
+    requires { i < 16 }
+    ensures { result ≡ with_mark m i }
+{
+    m | (1u16 << i)
+}
+
 impl Heading {
     // A number is counted: H and the heard moment are taken.
     pub fn count(self, n: u64, heard: u64) -> Heading
         ensures { result ≡ counted_to self n heard }
     {
-        let mut h = self;
-        h.number = n;
-        h.heard = heard;
-        h
+        Heading {
+            number: n,
+            heard,
+            ..self
+        }
     }
 
     // The queue is let go: B becomes H.
     pub fn let_go(self) -> Heading
         ensures { result ≡ let_go self }
     {
-        let mut h = self;
-        h.base = h.number;
-        h.queued = 0;
-        h
+        Heading {
+            base: self.number,
+            queued: 0,
+            ..self
+        }
     }
 
     // A gap before n: all Waiting, the queue emptied, B the number less one.
+    #[tactic(auto, unfolding(crate::specs::Marks::all_marks))]
     pub fn gap(self, n: u64) -> Heading
         requires { (1 ≤ n) × (1 ≤ self.followed) × (self.followed ≤ 16) }
         ensures { result ≡ gap_at self n }
     {
-        let k = self.followed;
-        let mut h = self;
-        h.base = n - 1;
-        h.queued = 0;
-        h.marks = 65535u16 >> (16 - k);
-        h
+        Heading {
+            base: n - 1,
+            marks: u16::MAX >> (16 - self.followed),
+            queued: 0,
+            ..self
+        }
     }
 
     // Whether instrument i is Waiting.
@@ -58,8 +78,7 @@ impl Heading {
         requires { i < 16 }
         ensures { result ≡ marked self.marks i }
     {
-        let m = self.marks;
-        (m >> i) % 2 == 1
+        marked(self.marks, i)
     }
 
     // Instrument i is Waiting from now on.
@@ -67,9 +86,10 @@ impl Heading {
         requires { i < 16 }
         ensures { result ≡ marks_now self (with_mark self.marks i) }
     {
-        let mut h = self;
-        h.marks = h.marks | (1u16 << i);
-        h
+        Heading {
+            marks: with_mark(self.marks, i),
+            ..self
+        }
     }
 
     // Instrument i is Live from now on.
@@ -77,16 +97,18 @@ impl Heading {
         requires { i < 16 }
         ensures { result ≡ marks_now self (without_mark self.marks i) }
     {
-        let mut h = self;
-        h.marks = h.marks & !(1u16 << i);
-        h
+        Heading {
+            marks: self.marks & !(1u16 << i),
+            ..self
+        }
     }
 
     // How many instruments are Waiting: the ones of the marks.
+    #[tactic(auto, using(crate::proofs::Bits::ones_marked))]
     pub fn waiting(self) -> u32
         ensures { result ≡ marked_in self.marks 16 }
     {
-        u16::count_ones(self.marks)
+        self.marks.count_ones()
     }
 
     // One more entry is queued.
@@ -94,8 +116,9 @@ impl Heading {
         requires { self.queued < 256 }
         ensures { result ≡ queued_more self }
     {
-        let mut h = self;
-        h.queued = h.queued + 1;
-        h
+        Heading {
+            queued: self.queued + 1,
+            ..self
+        }
     }
 }
