@@ -1,22 +1,26 @@
 -- A W in the row, case by case.
-use mathlib.Core.Path.{◌≡◌, refl, ◌∙◌}
-use mathlib.Core.Bool.{Bool, true, false, cond, not, ◌&&◌, ◌||◌, true≢false, false≢true}
-use Prim.Native.Nat.{ℕ, ◌+◌, ◌≤◌, ◌<◌}
-use lib.Dec.{eqb}
-use borrow.Author.Tests.{eqb-true, eq-eqb, ne_eqb, lt-ltb, le-ltb, le-leb, lt-leb}
+use mathlib.Core.Path.{◌≡◌, refl, sym, ap, ◌∙◌}
+use mathlib.Core.Bool.{Bool, true, false, cond}
+use mathlib.Core.Logic.{⊎_elim, ◌⊎◌}
+use Prim.Native.Nat.{ℕ, ◌+◌, ◌≤◌, ◌<◌, min}
+use native.Mathlib.Omega.{arith}
+use Rattle.std.proofs.Math.Nat.{min-eq_left, min-eq_right}
+use lib.Dec.{eqb, ltb}
+use borrow.Author.Tests.{eqb-true, eq-eqb, ne_eqb, ltb-true, ltb-false, le-leb, lt-leb}
 use Rattle.heading.specs.Marks.{with_mark}
 use Rattle.message.specs.Message.{Head}
 use Rattle.board.proofs.Tested.{both}
 use Rattle.loops.specs.declared.Loop.{Loop}
 use Rattle.loops.specs.Loops.{no_loop, with_name, lower, begun, is_next, grown, in_row}
 
-pub lower_is : (a b : ℕ) → a < b → lower a b ≡ a
+-- the lower of two is std's least
+pub lower_min : (a b : ℕ) → lower a b ≡ min a b
 unfolding lower
-lower_is a b h = rw (lt-ltb a b h)
-
-pub lower_not : (a b : ℕ) → b ≤ a → lower a b ≡ b
-unfolding lower
-lower_not a b h = rw (le-ltb a b h)
+lower_min a b = go (ltb a b) refl
+  where
+    go : (t : Bool) → ltb a b ≡ t → cond t a b ≡ min a b
+    go true e = let h : a ≤ b = omega (arith, ltb-true a b e) in sym (min-eq_left h)
+    go false e = sym (min-eq_right (ltb-false a b e))
 
 pub not_named : (n i named : ℕ) → n ≤ i → with_name n i named ≡ named
 unfolding with_name
@@ -42,21 +46,14 @@ module _ (h : Head) (n i : ℕ) (l : Loop) where
   unfolding in_row
   by_next e = rw (ne_eqb h.number 1 e)
 
-  pub drops : (h.number ≡ 1 → ⊥) → not (eqb h.number (l.come + 1)) || not (eqb h.loops l.loops) ≡ true → in_row h n i l ≡ no_loop
-  drops e o = by_next e ∙ go (eqb h.number (l.come + 1)) (eqb h.loops l.loops) o
+  pub drops : (h.number ≡ 1 → ⊥) → (h.number ≡ l.come + 1 → ⊥) ⊎ ((h.number ≡ l.come + 1) × (h.loops ≡ l.loops → ⊥)) → in_row h n i l ≡ no_loop
+  drops e o = by_next e ∙ go (is_next h l) refl
     where
-      go : (a b : Bool) → not a || not b ≡ true → cond (a && b) (grown h n i l) no_loop ≡ no_loop
-      go true true q = absurd (false≢true q)
-      go true false q = refl
-      go false b q = refl
+      go : (t : Bool) → is_next h l ≡ t → cond t (grown h n i l) no_loop ≡ no_loop
+      go true q = let p = next_is h l q in absurd (⊎_elim (λ f. f p.0) (λ f. f.1 p.1) o)
+      go false q = refl
 
-  -- the code takes its own 34 and 911, which are then the next and the same
-  pub grows : (h.number ≡ 1 → ⊥) → not (eqb h.number (l.come + 1)) || not (eqb h.loops l.loops) ≡ false
-      → in_row h n i l ≡ record { loops = h.loops; come = h.number; low = lower l.low h.last; named = with_name n i l.named }
-  grows e o = by_next e ∙ go (eqb h.number (l.come + 1)) (eqb h.loops l.loops) refl refl o
-    where
-      go : (a b : Bool) → eqb h.number (l.come + 1) ≡ a → eqb h.loops l.loops ≡ b → not a || not b ≡ false
-          → cond (a && b) (grown h n i l) no_loop ≡ record { loops = h.loops; come = h.number; low = lower l.low h.last; named = with_name n i l.named }
-      go true true p q o = rw (eqb-true h.number (l.come + 1) p, eqb-true h.loops l.loops q)
-      go true false p q o = absurd (true≢false o)
-      go false b p q o = absurd (true≢false o)
+  -- the code takes its own 34, which is then the next
+  pub grows : (h.number ≡ 1 → ⊥) → h.number ≡ l.come + 1 → h.loops ≡ l.loops
+      → in_row h n i l ≡ record { loops = l.loops; come = h.number; low = lower l.low h.last; named = with_name n i l.named }
+  grows e p q = by_next e ∙ rw (eq-eqb h.number (l.come + 1) p, eq-eqb h.loops l.loops q) (ap (λ (k : ℕ). record { loops = l.loops; come = k; low = lower l.low h.last; named = with_name n i l.named }) (sym p))

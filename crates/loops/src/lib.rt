@@ -5,13 +5,15 @@
 ghost use Rattle.std.specs.Prelude.{◌≡◌, ◌≤◌, ◌<◌};
 ghost use Rattle.message.specs.Message.{most_number, head_in};
 ghost use Rattle.heading.specs.Marks.{marked};
-ghost use Rattle.loops.specs.Loops.{loop_of, no_loop, is_whole, with_name, lower, in_row};
+ghost use Rattle.loops.specs.Loops.{loop_of, no_loop, is_whole, with_name, in_row};
 ghost use Rattle.loops.specs.Sound.{sound_loop};
 
 use message::Reading;
 
 // loops: 911, or 0 where no loop runs. come: how many W have come. low: the lowest 369 among them. named: one bit an instrument, 1 for
 // one that a W of the loop was for.
+// Kept: no loop is a record of zeros and no `None`, since `store::load_loop` says with `loop_at` each of the four numbers of any store, also
+// where 911 is 0 and another is not, and `is_sound` tells the two.
 #[derive(Clone, Copy)]
 pub struct Loop {
     pub loops: u64,
@@ -33,28 +35,19 @@ pub fn none() -> Loop
 }
 
 // Whether four numbers are the record of a loop on a channel of n instruments: none runs, or one of which fewer than 911 have come.
+#[tactic(auto, using(crate::proofs::Ranges::rests, crate::proofs::Ranges::runs))]
 pub fn is_sound(loops: u64, come: u64, low: u64, named: u64, n: u64) -> bool
     requires { n ≤ 16 }
     ensures { result ≡ sound_loop n (loop_of loops come low named) }
 {
     if loops == 0 {
-        return (come == 0) & (low == 0) & (named == 0);
+        return come == 0 && low == 0 && named == 0;
     }
-    (1 <= come)
-        & (come < loops)
-        & (loops <= message::MOST_NUMBER)
-        & (low <= message::MOST_NUMBER)
-        & (named >> n == 0)
-}
-
-// The lower of two numbers.
-fn lower_of(a: u64, b: u64) -> u64
-    ensures { result ≡ lower a b }
-{
-    if a < b {
-        return a;
-    }
-    b
+    1 <= come
+        && come < loops
+        && loops <= message::MOST_NUMBER
+        && low <= message::MOST_NUMBER
+        && named >> n == 0
 }
 
 // The names with the instrument at index i of n; one that is not followed has the index n, and adds no name.
@@ -65,7 +58,7 @@ fn with_name(named: u16, n: usize, i: usize) -> u16
     if n <= i {
         return named;
     }
-    named | (1u16 << i)
+    heading::with_mark(named, i)
 }
 
 impl Loop {
@@ -75,33 +68,31 @@ impl Loop {
         requires { (self.come ≤ most_number) × (n ≤ 16) }
         ensures { result ≡ in_row (head_in r) n i self }
     {
-        let number = r.number;
-        let loops = r.loops;
-        let last = r.last;
-        if number == 1 {
+        if r.number == 1 {
             return Loop {
-                loops,
+                loops: r.loops,
                 come: 1,
-                low: last,
+                low: r.last,
                 named: with_name(0, n, i),
             };
         }
-        if (number != self.come + 1) | (loops != self.loops) {
+        if r.number != self.come + 1 || r.loops != self.loops {
             return none();
         }
         Loop {
-            loops,
-            come: number,
-            low: lower_of(self.low, last),
+            come: r.number,
+            low: self.low.min(r.last),
             named: with_name(self.named, n, i),
+            ..self
         }
     }
 
     // Whether the loop is whole.
+    #[tactic(auto, unfolding(crate::specs::Loops::is_whole))]
     pub fn is_whole(self) -> bool
         ensures { result ≡ is_whole self }
     {
-        (0 < self.loops) & (self.come == self.loops)
+        0 < self.loops && self.come == self.loops
     }
 
     // Whether the loop named the instrument at index i.
@@ -109,7 +100,6 @@ impl Loop {
         requires { i < 16 }
         ensures { result ≡ marked self.named i }
     {
-        let m = self.named;
-        (m >> i) % 2 == 1
+        heading::marked(self.named, i)
     }
 }
