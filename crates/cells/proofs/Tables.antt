@@ -5,8 +5,11 @@ use Prim.Native.Nat.{ℕ, zero, suc, ◌+◌, ◌*◌, ◌-◌, ◌≤◌, ◌<�
 use native.Mathlib.Nat.{zero-mul, zero-add}
 use native.Mathlib.Numerals.{add-one}
 use native.Mathlib.Omega.{arith}
-use lib.ListN.{length, take, drop, get_or, set, length-append, length-set, get_or-append, drop_of_length-le}
+use lib.ListN.{length, take, drop, get_or, set, replicate, length-append, length-set, length-drop, get_or-append, drop_of_length-le}
 use lib.Seq.{sets, drop-cons, take-suc, take-suc-set, length-take-le, get_or_at, get_or-append-add, ext_get_or, get_or-set_same, get_or-set_other}
+use borrow.Rule.Slice.PartMut.{put_mid, mid_of}
+use Rattle.std.proofs.lemmas.List.{replicate-append-replicate, drop-drop}
+use Rattle.std.proofs.lemmas.List.Edits.{sets-eq}
 use Rattle.book.specs.declared.Entry.{Entry}
 use Rattle.cells.specs.Cells.{tab, zeros, flat, words}
 use Rattle.cells.proofs.Stores.{below_or, sets_append, in_sets}
@@ -86,10 +89,19 @@ get_d_zeros (suc n) k =
     last zero = refl
     last (suc j) = refl
 
--- a turn of the loop that writes zeros
-pub zero_turn : (l : List ℕ) (a i : ℕ) → set (sets l a (zeros i)) (a + i) 0 ≡ sets l a (zeros (i + 1))
+-- filling a part with zeros writes them
+zeros_are : (n : ℕ) → replicate n 0 ≡ zeros n
 unfolding zeros
-zero_turn l a i = rw (add-one, sets_append, length_zeros i)
+zeros_are zero = refl
+zeros_are (suc n) =
+    let e : replicate n 0 ++ (0 ∷ []) ≡ replicate (n + 1) 0 = replicate-append-replicate n 1 0 in
+    ap (λ (k : ℕ). replicate k 0) (sym (add-one n)) ∙ sym e ∙ ap (λ (l : List ℕ). l ++ (0 ∷ [])) (zeros_are n)
+
+pub filled : (l : List ℕ) (a k n : ℕ) (ws : List ℕ) → a + n ≤ length l → k ≡ n → ws ≡ replicate (length (mid_of a k l)) 0 → put_mid a k l ws ≡ sets l a (zeros n)
+filled l a k n ws h e w =
+    let m : length (mid_of a k l) ≡ n = rw e (length-take-le n (drop a l) (simp length-drop (omega arith))) in
+    let z : ws ≡ zeros n = w ∙ ap (λ (i : ℕ). replicate i 0) m ∙ zeros_are n in
+    rw (z, e, drop-drop n a l) (sym (append_assoc (take a l) (zeros n) (drop (a + n) l)) ∙ rw (length_zeros n) at (sym (sets-eq (zeros n) l a (omega (arith, length_zeros n)))))
 
 -- a number in a run of zeros that was written
 pub in_zeros : (xs : List ℕ) (a n k : ℕ) → a ≤ k → k < a + n → a + n ≤ length xs → get_or (sets xs a (zeros n)) k 0 ≡ 0

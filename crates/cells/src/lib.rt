@@ -28,9 +28,8 @@ pub fn load_entry(store: &[u64], at: usize) -> Entry
     requires { at + 5 ≤ length store.now }
     ensures { result ≡ entry_at store.now at }
 {
-    let p = holding::of_held(store[at]);
     Entry {
-        price: p,
+        price: holding::of_held(store[at]),
         size: store[at + 1],
         by: store[at + 2],
         more: store[at + 3],
@@ -54,14 +53,9 @@ pub fn load_side(store: &[u64], at: usize) -> Side
     requires { at + side_size ≤ length store.now }
     ensures { result ≡ side_at store.now at }
 {
-    let none = book::no_entry();
-    let mut places = [none; 20];
-    let mut i = 0usize;
-    let mut o = at + 1;
-    while i < book::PLACES {
-        places[i] = load_entry(store, o);
-        i += 1;
-        o += ENTRY;
+    let mut places = [book::no_entry(); 20];
+    for (i, place) in places.iter_mut().enumerate() {
+        *place = load_entry(store, at + 1 + i * ENTRY);
     }
     Side {
         places,
@@ -82,11 +76,8 @@ pub fn save_side_from(store: &mut [u64], at: usize, s: Side, from: usize)
     ensures { store.new ≡ sets store.old at (side_words s) }
 {
     store[at] = s.held as u64;
-    let mut i = from;
-    while i < book::PLACES {
-        let e = s.places[i];
-        save_entry(store, at + 1 + i * ENTRY, e);
-        i += 1;
+    for i in from..book::PLACES {
+        save_entry(store, at + 1 + i * ENTRY, s.places[i]);
     }
 }
 
@@ -95,13 +86,12 @@ pub fn load_update(store: &[u64], at: usize) -> Update
     requires { at + 9 ≤ length store.now }
     ensures { result ≡ update_at store.now at }
 {
-    let e = load_entry(store, at + UPDATE_ENTRY);
     Update {
         who: store[at],
         what: store[at + UPDATE_WHAT],
         action: store[at + 2],
         place: store[at + 3] as usize,
-        entry: e,
+        entry: load_entry(store, at + UPDATE_ENTRY),
     }
 }
 
@@ -113,8 +103,7 @@ pub fn save_update(store: &mut [u64], at: usize, u: Update)
     store[at + UPDATE_WHAT] = u.what;
     store[at + 2] = u.action;
     store[at + 3] = u.place as u64;
-    let e = u.entry;
-    save_entry(store, at + UPDATE_ENTRY, e);
+    save_entry(store, at + UPDATE_ENTRY, u.entry);
 }
 
 // A queued entry: the number of its message, and the update.
@@ -131,9 +120,5 @@ pub fn zero_run(store: &mut [u64], at: usize, n: usize)
     requires { at + n ≤ length store.old }
     ensures { store.new ≡ sets store.old at (zeros n) }
 {
-    let mut i = 0usize;
-    while i < n {
-        store[at + i] = 0;
-        i += 1;
-    }
+    store[at..at + n].fill(0);
 }

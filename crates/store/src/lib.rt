@@ -138,7 +138,7 @@ pub fn save_heading(store: &mut [u64], h: Heading)
     store[NUMBER] = h.number;
     store[BASE] = h.base;
     store[HEARD] = h.heard;
-    store[MARKS] = h.marks as u64;
+    store[MARKS] = u64::from(h.marks);
     store[QUEUED] = h.queued as u64;
 }
 
@@ -161,23 +161,22 @@ pub fn save_loop(store: &mut [u64], l: Loop)
     store[LOOPS] = l.loops;
     store[COME] = l.come;
     store[LOW] = l.low;
-    store[NAMED] = l.named as u64;
+    store[NAMED] = u64::from(l.named);
 }
 
 // The index of the instrument with this SecurityID, or how many are followed.
+// Kept: a number and no Option, since `look` says that number of an instrument that is not followed, and `refusal_of`, `in_row` and the
+// contracts of `terms`, `taking` and `loops` take it as it is.
 pub fn find(store: &[u64], h: Heading, id: u64) -> usize
     requires { (store_size ≤ length store.now) × (h.followed ≤ 16) }
     ensures { (result ≡ look id (board_in (st h store.now)).insts) × (result ≤ h.followed) }
 {
-    let n = h.followed;
-    let mut i = 0usize;
-    while i < n {
+    for i in 0..h.followed {
         if store[IDS + i * RECORD] == id {
             return i;
         }
-        i += 1;
     }
-    n
+    h.followed
 }
 
 // A gap before the number n: all Waiting with empty books, reasons kept, the queue emptied.

@@ -13,7 +13,7 @@ use mathlib.Core.Path.{◌≡◌, sym, ◌∙◌}
 use Rattle.store.proofs.find.Goals as goal
 
 pub loop-i-init : goal.loop-i-init
-loop-i-init c = (omega arith, λ m. sym (add-zero _))
+loop-i-init c m = sym (add-zero _)
 
 pub returns-then-store-i : goal.returns-then-store-i
 unfolding look inst_at board_of
@@ -22,21 +22,18 @@ returns-then-store-i c =
     let a = c.args in
     let f = inst_at a.h.marks a.store.now in
     let e : look a.id (tab f a.h.followed) ≡ look a.id (f l.i ∷ drop (l.i + 1) (tab f a.h.followed)) + l.i =
-    rw (tab_turn f a.h.followed l.i (omega arith)) at (l.invariant.1 a.h.marks) in
+    rw (tab_turn f a.h.followed l.i (omega arith)) at (l.invariant a.h.marks) in
     (sym (e ∙ rw (eq-eqb _ _ c.if-store-i.true) (zero-add l.i)), omega arith)
 
 pub loop-i-preserved : goal.loop-i-preserved
 unfolding look inst_at
-loop-i-preserved c =
+loop-i-preserved c m =
     let l = c.loop-i in
-    let a = c.args in (
-      omega arith,
-      λ m.
-          let f = inst_at m a.store.now in
-          let e : look a.id (tab f a.h.followed) ≡ look a.id (f l.i ∷ drop (l.i + 1) (tab f a.h.followed)) + l.i =
-          rw (tab_turn f a.h.followed l.i (omega arith)) at (l.invariant.1 m) in
-          e ∙ rw (ne_eqb _ _ c.if-store-i.false) (omega arith),
-    )
+    let a = c.args in
+    let f = inst_at m a.store.now in
+    let e : look a.id (tab f a.h.followed) ≡ look a.id (f l.i ∷ drop (l.i + 1) (tab f a.h.followed)) + l.i =
+    rw (tab_turn f a.h.followed l.i (omega arith)) at (l.invariant m) in
+    e ∙ rw (ne_eqb _ _ c.if-store-i.false) (omega arith)
 
 pub returns : goal.returns
 unfolding look board_of
@@ -44,5 +41,5 @@ returns c =
     let l = c.loop-i in
     let a = c.args in
     let f = inst_at a.h.marks a.store.now in
-    let e : look a.id (tab f a.h.followed) ≡ look a.id [] + l.i = rw (tab_end f a.h.followed l.i (omega arith)) at (l.invariant.1 a.h.marks) in
+    let e : look a.id (tab f a.h.followed) ≡ look a.id [] + l.i = rw (tab_end f a.h.followed l.i (omega arith)) at (l.invariant a.h.marks) in
     (omega arith, omega arith)

@@ -3,12 +3,9 @@ use Rattle.store.specs.Meaning.{inst_at}
 use Rattle.board.specs.Board.{look}
 use Rattle.cells.specs.Cells.{tab}
 use lib.ListN.{drop}
-use Prim.Native.Nat.{◌+◌, ◌-◌, ◌≤◌, ℕ}
+use Prim.Native.Nat.{◌+◌, ℕ}
 use mathlib.Core.Path.{◌≡◌}
 use Rattle.store.proofs.find.Given as goal
 
 abbrev pub invariant-loop-i : goal.invariant-loop-i
-invariant-loop-i l = (l.i ≤ l.n) × ((m : ℕ) → look l.id (tab (inst_at m l.store) l.n) ≡ look l.id (drop l.i (tab (inst_at m l.store) l.n)) + l.i)
-
-abbrev pub decreases-loop-i : goal.decreases-loop-i
-decreases-loop-i l = l.n - l.i
+invariant-loop-i l = (m : ℕ) → look l.id (tab (inst_at m l.store) l.h.followed) ≡ look l.id (drop l.i (tab (inst_at m l.store) l.h.followed)) + l.i
