@@ -7,9 +7,10 @@ use native.Mathlib.Omega.{arith}
 use lib.Dec.{leb, eqb}
 use lib.ListN.{length}
 use borrow.Author.Tests.{le-leb, lt-leb, leb-true, eqb-true, eqb-false, ne_eqb}
+use Rattle.std.specs.Prelude.{Option, None, Some}
 use Rattle.book.specs.declared.Entry.{Entry}
 use Rattle.sums.specs.Sums.{fits}
-use Rattle.proceeds.specs.declared.Lot.{Lot}
+use Rattle.proceeds.specs.declared.Sale.{Sale}
 use Rattle.proceeds.specs.Lots.{sum_after, lot_of}
 use Rattle.proceeds.proofs.Exactly.{lots_are_exact}
 use Rattle.quote.specs.declared.Quote.{Quote}
@@ -48,9 +49,9 @@ refused r n es e z w =
     }
 
 module _ (q : Quote) (n : ℕ) (es : List Entry) where
-  sum_out : (l : Lot) → lot_of n es ≡ l → lot_number (dated q l) ≡ 35 → lot_of n es ≡ Lot.Over
-  sum_out (Lot.Is s) e h = absurd (omega arith)
-  sum_out Lot.Over e h = e
+  sum_out : (l : Option Sale) → lot_of n es ≡ l → lot_number (dated q l) ≡ 35 → lot_of n es ≡ None
+  sum_out (Some s) e h = absurd (omega arith)
+  sum_out None e h = e
 
   only_sums : (t : Bool) → units_fine n ≡ t → lot_number (cond t (dated q (lot_of n es)) Lotted.BadQuantity) ≡ 35
       → (◌≡◌ {A = ℕ} 0 0) × ((units_fine n ≡ true) × ((k : ℕ) × ((k ≤ length es) × (fits (sum_after n es k) ≡ false))))
@@ -60,18 +61,18 @@ module _ (q : Quote) (n : ℕ) (es : List Entry) where
   not_17 : (t : Bool) → lot_number (cond t (dated q (lot_of n es)) Lotted.BadQuantity) ≡ 17 → ⊥
   not_17 true h = go (lot_of n es) h
     where
-      go : (l : Lot) → lot_number (dated q l) ≡ 17 → ⊥
-      go (Lot.Is s) e = omega arith
-      go Lot.Over e = omega arith
+      go : (l : Option Sale) → lot_number (dated q l) ≡ 17 → ⊥
+      go (Some s) e = omega arith
+      go None e = omega arith
   not_17 false h = omega arith
 
-  all_fit : (l : Lot) → lot_of n es ≡ l → ((k : ℕ) → fits (sum_after n es k) ≡ true) → lot_number (dated q l) ≡ 0
-  all_fit (Lot.Is s) e h = refl
-  all_fit Lot.Over e h = let (k, (m, w)) = (lots_are_exact n es).refused e in absurd (false≢true (sym w ∙ h k))
+  all_fit : (l : Option Sale) → lot_of n es ≡ l → ((k : ℕ) → fits (sum_after n es k) ≡ true) → lot_number (dated q l) ≡ 0
+  all_fit (Some s) e h = refl
+  all_fit None e h = let (k, (m, w)) = (lots_are_exact n es).refused e in absurd (false≢true (sym w ∙ h k))
 
   -- what is given is exact and dated
-  sold : (l : Lot) → lot_of n es ≡ l → lot_number (dated q l) ≡ 0 → (s : Sold) × ((dated q l ≡ Lotted.Is s) × Rests q n es s)
-  sold (Lot.Is x) e h =
+  sold : (l : Option Sale) → lot_of n es ≡ l → lot_number (dated q l) ≡ 0 → (s : Sold) × ((dated q l ≡ Lotted.Is s) × Rests q n es s)
+  sold (Some x) e h =
       let g = (lots_are_exact n es).given x e in (
         record { sum = x.sum; left = x.left; number = q.number; heard = q.heard },
         (
@@ -86,7 +87,7 @@ module _ (q : Quote) (n : ℕ) (es : List Entry) where
           },
         ),
       )
-  sold Lot.Over e h = absurd (omega arith)
+  sold None e h = absurd (omega arith)
 
   given : (t : Bool) → lot_number (cond t (dated q (lot_of n es)) Lotted.BadQuantity) ≡ 0
       → (s : Sold) × ((cond t (dated q (lot_of n es)) Lotted.BadQuantity ≡ Lotted.Is s) × Rests q n es s)

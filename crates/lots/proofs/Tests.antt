@@ -8,6 +8,7 @@ use lib.Dec.{leb, ltb, eqb}
 use lib.ListN.{length, set}
 use lib.Seq.{sets}
 use borrow.Author.Tests.{ltb-true, ltb-false, le-leb, lt-leb, leb-true, ne_eqb}
+use Rattle.std.specs.Prelude.{Option, None, Some}
 use Rattle.book.specs.declared.Entry.{Entry}
 use Rattle.book.specs.Canonical.{held_in}
 use Rattle.quote.specs.declared.Quoted.{Quoted}
@@ -17,7 +18,7 @@ use Rattle.backing.specs.Backing.{quoted_of, behind, Backs}
 use Rattle.backing.specs.declared.Backed.{Backed}
 use Rattle.backing.proofs.Laws.{quoted_is_fine}
 use Rattle.ask.specs.Fine.{FineQuoted}
-use Rattle.proceeds.specs.declared.Lot.{Lot}
+use Rattle.proceeds.specs.declared.Sale.{Sale}
 use Rattle.proceeds.specs.Lots.{lot_of}
 use Rattle.quote.specs.declared.Quote.{Quote}
 use Rattle.lots.specs.declared.Sold.{Sold}
@@ -94,9 +95,9 @@ pub stays : (l : Lotted) (answer : ℕ) (room : List ℕ) → (answer ≡ 0 → 
 stays l answer room h = rw (ne_eqb answer 0 h)
 
 -- ---- a lot that is given can be written
-dated_fine : (q : Quote) (l : Lot) → FineQuoted (Quoted.Is q) → FineLot (dated q l)
-dated_fine q (Lot.Is s) f = f.heard
-dated_fine q Lot.Over f = tt
+dated_fine : (q : Quote) (l : Option Sale) → FineQuoted (Quoted.Is q) → FineLot (dated q l)
+dated_fine q (Some s) f = f.heard
+dated_fine q None f = tt
 
 on_fine : (r : Quoted) (n : ℕ) (es : List Entry) → FineQuoted r → FineLot (on_quote r n es)
 on_fine (Quoted.Is q) n es f = go (units_fine n)

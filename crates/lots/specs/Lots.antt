@@ -1,7 +1,7 @@
 -- A lot of an instrument, dated by the quote that it rests on (document 02, K11).
-use Rattle.std.specs.Prelude.{Bool, cond, ◌&&◌, List, ℕ, leb}
+use Rattle.std.specs.Prelude.{Option, None, Some, Bool, cond, ◌&&◌, List, ℕ, leb}
 use Rattle.book.specs.declared.Entry.{Entry}
-use Rattle.proceeds.specs.declared.Lot.{Lot}
+use Rattle.proceeds.specs.declared.Sale.{Sale}
 use Rattle.proceeds.specs.Lots.{lot_of}
 use Rattle.quote.specs.declared.Quote.{Quote}
 use Rattle.quote.specs.declared.Quoted.{Quoted}
@@ -17,9 +17,9 @@ abbrev pub units_fine : ℕ → Bool
 units_fine n = leb 1 n && leb n most_units
 
 -- The sum and what is left, with the number and the moment of the quote.
-abbrev pub dated : Quote → Lot → Lotted
-dated q (Lot.Is s) = Lotted.Is (record { sum = s.sum; left = s.left; number = q.number; heard = q.heard })
-dated q Lot.Over = Lotted.Over
+abbrev pub dated : Quote → Option Sale → Lotted
+dated q (Some s) = Lotted.Is (record { sum = s.sum; left = s.left; number = q.number; heard = q.heard })
+dated q None = Lotted.Over
 
 -- Quote refusals pass through unchanged and first, then a quantity out of range is refused.
 abbrev pub on_quote : Quoted → ℕ → List Entry → Lotted

@@ -12,7 +12,7 @@ ghost use Rattle.lots.specs.Lots.{dated, on_quote, lot_number};
 ghost use Rattle.lots.specs.Rooms.{lot_size, sold_words, lot_words, in_room, FineLot, Dealt};
 
 use backing::Backed;
-use proceeds::Lot;
+use proceeds::Sale;
 use quote::{Quote, Quoted};
 
 // What a lot brings: the sum, the units that no place took, and the number and the moment of the quote.
@@ -46,10 +46,10 @@ const OVER: u64 = 35;
 const LOT: usize = 5;
 
 // A lot with the number and the moment of its quote.
-fn date(l: Lot, q: Quote) -> Lotted
+fn date(l: Option<Sale>, q: Quote) -> Lotted
     ensures { result ≡ dated q l }
 {
-    let Lot::Is(s) = l else {
+    let Some(s) = l else {
         return Lotted::Over;
     };
     let sum = s.sum;
@@ -74,7 +74,7 @@ fn lot_on(b: Backed, quantity: u64) -> Lotted
         return Lotted::BadQuantity;
     }
     let side = b.side;
-    let l = proceeds::of_side(side, quantity);
+    let l = proceeds::of_side(&side, quantity);
     date(l, q)
 }
 

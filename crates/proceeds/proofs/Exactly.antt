@@ -8,10 +8,10 @@ use lib.Dec.{leb}
 use lib.ListN.{length, take, get_or}
 use lib.Seq.{take_all}
 use borrow.Author.Tests.{leb-true, leb-false}
+use Rattle.std.specs.Prelude.{Option, None, Some}
 use Rattle.book.specs.declared.Entry.{Entry}
 use Rattle.sums.specs.Sums.{fits}
 use Rattle.proceeds.specs.declared.Sale.{Sale}
-use Rattle.proceeds.specs.declared.Lot.{Lot}
 use Rattle.proceeds.specs.Lots.{units_of, left_of, value_of, sum_over, sum_after, all_fit, lot_of}
 use Rattle.proceeds.specs.Laws.{total, sizes, LotsAreExact}
 use Rattle.proceeds.proofs.Runs.{whole}
@@ -107,32 +107,32 @@ module _ (n : ℕ) (es : List Entry) where
       go false q w i = let r = i q in (r.0, (omega (arith, r.1.0), r.1.1))
 
   -- the lot by its test
-  lot_true : (s : Sale) → lot_of n es ≡ Lot.Is s → (all_fit n es (length es) ≡ true) × ((s.sum ≡ sum_over n es) × (s.left ≡ left_of n es))
+  lot_true : (s : Sale) → lot_of n es ≡ Some s → (all_fit n es (length es) ≡ true) × ((s.sum ≡ sum_over n es) × (s.left ≡ left_of n es))
   unfolding lot_of
   lot_true s h = go (all_fit n es (length es)) refl h
     where
       go : (t : Bool) → all_fit n es (length es) ≡ t
-          → cond t (Lot.Is (record { sum = sum_over n es; left = left_of n es })) Lot.Over ≡ Lot.Is s
+          → cond {A = Option Sale} t (Some (record { sum = sum_over n es; left = left_of n es })) None ≡ Some s
           → (all_fit n es (length es) ≡ true) × ((s.sum ≡ sum_over n es) × (s.left ≡ left_of n es))
       go true q w = let e : s ≡ record { sum = sum_over n es; left = left_of n es } = cc in (q, (ap (λ (x : Sale). x.sum) e, ap (λ (x : Sale). x.left) e))
       go false q w = let z : ◌≡◌ {A = ℕ} 0 1 = cc in absurd (omega arith)
 
-  lot_false : lot_of n es ≡ Lot.Over → all_fit n es (length es) ≡ false
+  lot_false : lot_of n es ≡ None → all_fit n es (length es) ≡ false
   unfolding lot_of
   lot_false h = go (all_fit n es (length es)) refl h
     where
       go : (t : Bool) → all_fit n es (length es) ≡ t
-          → cond t (Lot.Is (record { sum = sum_over n es; left = left_of n es })) Lot.Over ≡ Lot.Over
+          → cond {A = Option Sale} t (Some (record { sum = sum_over n es; left = left_of n es })) None ≡ None
           → all_fit n es (length es) ≡ false
       go true q w = let z : ◌≡◌ {A = ℕ} 0 1 = cc in absurd (omega arith)
       go false q w = q
 
-  refuses : (k : ℕ) → fits (sum_after n es k) ≡ false → lot_of n es ≡ Lot.Over
+  refuses : (k : ℕ) → fits (sum_after n es k) ≡ false → lot_of n es ≡ None
   unfolding lot_of
   refuses k h = go (all_fit n es (length es)) refl
     where
       go : (t : Bool) → all_fit n es (length es) ≡ t
-          → cond (all_fit n es (length es)) (Lot.Is (record { sum = sum_over n es; left = left_of n es })) Lot.Over ≡ Lot.Over
+          → cond {A = Option Sale} (all_fit n es (length es)) (Some (record { sum = sum_over n es; left = left_of n es })) None ≡ None
       go true q = absurd (false≢true (sym h ∙ all_true q k))
       go false q = rw q
 

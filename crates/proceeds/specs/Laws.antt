@@ -1,9 +1,8 @@
 -- What is shown of a lot of n units down the places es.
-use Rattle.std.specs.Prelude.{◌≡◌, true, false, List, [], ◌∷◌, ℕ, ◌+◌, ◌≤◌, ◌<◌, length, take, get_or}
+use Rattle.std.specs.Prelude.{None, Some, ◌≡◌, true, false, List, [], ◌∷◌, ℕ, ◌+◌, ◌≤◌, ◌<◌, length, take, get_or}
 use Rattle.book.specs.declared.Entry.{Entry}
 use Rattle.sums.specs.Sums.{fits}
 use Rattle.proceeds.specs.declared.Sale.{Sale}
-use Rattle.proceeds.specs.declared.Lot.{Lot}
 use Rattle.proceeds.specs.Lots.{units_of, left_of, sum_over, sum_after, lot_of}
 
 unfoldable pub total : List ℕ → ℕ
@@ -24,12 +23,12 @@ pub record Exactly (n : ℕ) (es : List Entry) : Type 0 where
   -- A larger quantity never brings fewer units.
   pub grows : (m : ℕ) → n ≤ m → total (units_of n es) ≤ total (units_of m es)
   -- What is given is the exact sum and what is left,
-  pub given : (s : Sale) → lot_of n es ≡ Lot.Is s → (s.sum ≡ sum_over n es) × (s.left ≡ left_of n es)
+  pub given : (s : Sale) → lot_of n es ≡ Some s → (s.sum ≡ sum_over n es) × (s.left ≡ left_of n es)
   -- and then every sum on the way fits.
-  pub fit : (s : Sale) → lot_of n es ≡ Lot.Is s → (k : ℕ) → fits (sum_after n es k) ≡ true
+  pub fit : (s : Sale) → lot_of n es ≡ Some s → (k : ℕ) → fits (sum_after n es k) ≡ true
   -- It is refused exactly when the sum after some of the places, from place 1 on, does not fit.
-  pub refused : lot_of n es ≡ Lot.Over → (k : ℕ) × ((k ≤ length es) × (fits (sum_after n es k) ≡ false))
-  pub refuses : (k : ℕ) → fits (sum_after n es k) ≡ false → lot_of n es ≡ Lot.Over
+  pub refused : lot_of n es ≡ None → (k : ℕ) × ((k ≤ length es) × (fits (sum_after n es k) ≡ false))
+  pub refuses : (k : ℕ) → fits (sum_after n es k) ≡ false → lot_of n es ≡ None
   -- The last of those sums is the whole one.
   pub whole : sum_after n es (length es) ≡ sum_over n es
 

@@ -1,9 +1,9 @@
 -- What a lot of n units brings down the places es of a side (document 02, K11): units go place by place, from place 1 on, and every sum
 -- is exact. Whole numbers here have no bounds; that one does not fit is said by `fits` alone.
-use Rattle.std.specs.Prelude.{Bool, true, cond, ◌&&◌, List, [], ◌∷◌, ℕ, zero, suc, ◌-◌, min, ℤ, pos, ◌+ℤ◌, ◌*ℤ◌, length, take}
+use Rattle.std.specs.Prelude.{Option, None, Some, Bool, true, cond, ◌&&◌, List, [], ◌∷◌, ℕ, zero, suc, ◌-◌, min, ℤ, pos, ◌+ℤ◌, ◌*ℤ◌, length, take}
 use Rattle.book.specs.declared.Entry.{Entry}
 use Rattle.sums.specs.Sums.{fits}
-use Rattle.proceeds.specs.declared.Lot.{Lot}
+use Rattle.proceeds.specs.declared.Sale.{Sale}
 
 -- The units that each place takes: its size, or what is left of the lot.
 unfoldable pub units_of : ℕ → List Entry → List ℕ
@@ -35,5 +35,5 @@ all_fit n es zero = true
 all_fit n es (suc k) = all_fit n es k && fits (sum_after n es (suc k))
 
 -- It is refused exactly when the sum, or a partial sum from place 1 on, does not fit.
-unfoldable pub lot_of : ℕ → List Entry → Lot
-lot_of n es = cond (all_fit n es (length es)) (Lot.Is (record { sum = sum_over n es; left = left_of n es })) Lot.Over
+unfoldable pub lot_of : ℕ → List Entry → Option Sale
+lot_of n es = cond (all_fit n es (length es)) (Some (record { sum = sum_over n es; left = left_of n es })) None

@@ -6,15 +6,11 @@ use Prim.Native.Nat.{ℕ, zero, suc, ◌+◌, ◌-◌, ◌*◌, ◌≤◌, ◌<�
 use native.Mathlib.Omega.{arith}
 use lib.Dec.{leb, ltb}
 use lib.IntN.{ℤ, pos, negsuc, neg_ℤ, nat_abs, sub_ℕ, ◌+ℤ◌, ◌*ℤ◌}
-use lib.Signed.{lt_z, mag}
-use borrow.Author.Tests.{ltb-true, ltb-false, lt-ltb, le-ltb, leb-true, leb-false, le-leb, lt-leb}
-use mir.Syntax.{w64}
-use mir.Val.{SFits, to_z, of_z}
-use mir.Facts.{to_z-of_z}
+use lib.Signed.{lt_z}
+use borrow.Author.Tests.{ltb-true, ltb-false, lt-ltb, le-ltb, leb-true, le-leb, lt-leb}
 use Rattle.sums.specs.Sums.{most_above, most_below, fits, half, sum_of, level_of}
-use Rattle.sums.specs.Products.{product_of}
-use Rattle.sums.specs.declared.Product.{Product}
-use Rattle.sums.specs.declared.Level.{Level}
+use Rattle.std.specs.Prelude.{Option, None, Some, ◌^◌}
+use Rattle.std.specs.Option.{SomeIff}
 
 -- the highest level
 abbrev pub most : ℕ
@@ -114,11 +110,11 @@ past_bottom l (suc y) g = go (ltb l half) refl
 back : (l : ℕ) → nat_abs (sum_of l +ℤ pos half) ≡ l
 back l = ap nat_abs (plus l half ∙ sum_above (l + half) (omega arith)) ∙ (omega arith)
 
-level_at : (z : ℤ) (l : ℕ) → l ≤ most → z ≡ sum_of l → level_of z ≡ Level.At l
+level_at : (z : ℤ) (l : ℕ) → l ≤ most → z ≡ sum_of l → level_of z ≡ Some l
 unfolding level_of
-level_at z l g e = rw (e, fits_sum l g) (ap Level.At (back l))
+level_at z l g e = rw (e, fits_sum l g) (ap Some (back l))
 
-level_out : (z : ℤ) → fits z ≡ false → level_of z ≡ Level.Out
+level_out : (z : ℤ) → fits z ≡ false → level_of z ≡ None
 unfolding level_of
 level_out z h = rw h
 
@@ -128,10 +124,10 @@ pub record Stands (z : ℤ) (to : ℕ) : Type 0 where
   pub fine : fits z ≡ true
   pub small : to ≤ most
 
-at_same : (a b : ℕ) → Level.At a ≡ Level.At b → a ≡ b
+at_same : (a b : ℕ) → Some a ≡ Some b → a ≡ b
 at_same a b e = cc
 
-never : (a : ℕ) → Level.At a ≡ Level.Out → ⊥
+never : (a : ℕ) → Some a ≡ None → ⊥
 never a e = let z : ◌≡◌ {A = ℕ} 0 1 = cc in omega arith
 
 -- a sum that fits is the sum at its level
@@ -149,79 +145,53 @@ at_level (negsuc n) h = go (leb n most_below) refl h
         (record { sum = sym (sum_below (half - suc n) (omega arith) ∙ ap negsuc (omega arith)); fine = h; small = omega arith })
     go false q e = absurd (false≢true e)
 
-pub stands : (z : ℤ) (to : ℕ) → level_of z ≡ Level.At to → Stands z to
+pub stands : (z : ℤ) (to : ℕ) → level_of z ≡ Some to → Stands z to
 unfolding level_of
 stands z to e = go (fits z) refl e
   where
-    go : (t : Bool) → fits z ≡ t → cond t (Level.At (nat_abs (z +ℤ pos half))) Level.Out ≡ Level.At to → Stands z to
+    go : (t : Bool) → fits z ≡ t → cond t (Some (nat_abs (z +ℤ pos half))) None ≡ Some to → Stands z to
     go true h e = rw (at_same (nat_abs (z +ℤ pos half)) to e) at (at_level z h)
     go false h e = absurd (never to (sym e))
 
 -- and one that has none does not fit
-pub none : (z : ℤ) → level_of z ≡ Level.Out → fits z ≡ false
+pub none : (z : ℤ) → level_of z ≡ None → fits z ≡ false
 unfolding level_of
 none z e = go (fits z) refl e
   where
-    go : (t : Bool) → fits z ≡ t → cond t (Level.At (nat_abs (z +ℤ pos half))) Level.Out ≡ Level.Out → fits z ≡ false
+    go : (t : Bool) → fits z ≡ t → cond t (Some (nat_abs (z +ℤ pos half))) None ≡ None → fits z ≡ false
     go true h e = absurd (never (nat_abs (z +ℤ pos half)) e)
     go false h e = h
 
 -- ---- a step
-abbrev pub up : ℕ → Product → Level
-up l (Product.Is x) = Level.At (l + x)
-up l Product.Above = Level.Out
 
-abbrev pub down : ℕ → Product → Level
-down l (Product.Is x) = Level.At (l - x)
-down l Product.Above = Level.Out
-
--- up by a product, where there is room above
-rises : (l m u : ℕ) → l ≤ most → up l (product_of m u (most - l)) ≡ level_of (sum_of l +ℤ pos (m * u))
-rises l m u g = go (leb (m * u) (most - l)) refl
+-- up, where there is room above
+rises : (l x : ℕ) (r : Option ℕ) → l ≤ most → SomeIff r (l + x < 2 ^ 64) (l + x) → r ≡ level_of (sum_of l +ℤ pos x)
+rises l x (Some to) g h = sym (level_at (sum_of l +ℤ pos x) to (omega (arith, h.1)) (plus l x ∙ ap sum_of (sym h.1)))
+rises l x None g h = sym (level_out (sum_of l +ℤ pos x) (ap fits (plus l x) ∙ past_top (l + x) (go (ltb most (l + x)) refl)))
   where
-    go : (t : Bool) → leb (m * u) (most - l) ≡ t → up l (cond t (Product.Is (m * u)) Product.Above) ≡ level_of (sum_of l +ℤ pos (m * u))
-    go true h = let k = leb-true (m * u) (most - l) h in sym (level_at (sum_of l +ℤ pos (m * u)) (l + m * u) (omega arith) (plus l (m * u)))
-    go false h =
-        let k = leb-false (m * u) (most - l) h in
-        sym (level_out (sum_of l +ℤ pos (m * u)) (ap fits (plus l (m * u)) ∙ past_top (l + m * u) (omega arith)))
+    go : (t : Bool) → ltb most (l + x) ≡ t → most < l + x
+    go true e = ltb-true most (l + x) e
+    go false e = absurd (h (omega (arith, ltb-false most (l + x) e)))
 
--- down by a product, where there is room below
-falls : (l m u : ℕ) → l ≤ most → down l (product_of m u l) ≡ level_of (sum_of l +ℤ neg_ℤ (pos (m * u)))
-falls l m u g = go (leb (m * u) l) refl
+-- down, where there is room below
+falls : (l x : ℕ) (r : Option ℕ) → l ≤ most → SomeIff r (x ≤ l) (l - x) → r ≡ level_of (sum_of l +ℤ neg_ℤ (pos x))
+falls l x (Some to) g h = sym (level_at (sum_of l +ℤ neg_ℤ (pos x)) to (omega (arith, h.1)) (minus l x h.0 ∙ ap sum_of (sym h.1)))
+falls l x None g h = sym (level_out (sum_of l +ℤ neg_ℤ (pos x)) (past_bottom l x (go (ltb l x) refl)))
   where
-    go : (t : Bool) → leb (m * u) l ≡ t → down l (cond t (Product.Is (m * u)) Product.Above) ≡ level_of (sum_of l +ℤ neg_ℤ (pos (m * u)))
-    go true h = let k = leb-true (m * u) l h in sym (level_at (sum_of l +ℤ neg_ℤ (pos (m * u))) (l - m * u) (omega arith) (minus l (m * u) k))
-    go false h = sym (level_out (sum_of l +ℤ neg_ℤ (pos (m * u))) (past_bottom l (m * u) (leb-false (m * u) l h)))
+    go : (t : Bool) → ltb l x ≡ t → l < x
+    go true e = ltb-true l x e
+    go false e = absurd (h (ltb-false l x e))
 
--- ---- a step as the code makes it
-pub mag_nat_abs : (p : ℤ) → lt_z p (pos 0) ≡ true → mag p + 1 ≡ nat_abs p
-mag_nat_abs (pos n) h = absurd (omega (arith, ltb-true n 0 h))
-mag_nat_abs (negsuc n) h = omega arith
+-- a step at a price, by its distance from 0
+pub moved_up : (l u x : ℕ) (p : ℤ) (r : Option ℕ) → l ≤ most → lt_z p (pos 0) ≡ false → x ≡ nat_abs p * u → SomeIff r (l + x < 2 ^ 64) (l + x) → r ≡ level_of (sum_of l +ℤ p *ℤ pos u)
+moved_up l u x (pos n) r g s e h = rw e at (rises l x r g h)
+moved_up l u x (negsuc n) r g s e h = absurd (false≢true (sym s))
 
-is_down : (l : ℕ) (p : ℤ) (u : ℕ) → l ≤ most → lt_z p (pos 0) ≡ true → down l (product_of (nat_abs p) u l) ≡ level_of (sum_of l +ℤ p *ℤ pos u)
-is_down l (pos n) u g h = absurd (omega (arith, ltb-true n 0 h))
-is_down l (negsuc n) u g h = falls l (suc n) u g
+pub moved_down : (l u x : ℕ) (p : ℤ) (r : Option ℕ) → l ≤ most → lt_z p (pos 0) ≡ true → x ≡ nat_abs p * u → SomeIff r (x ≤ l) (l - x) → r ≡ level_of (sum_of l +ℤ p *ℤ pos u)
+moved_down l u x (pos n) r g s e h = absurd (omega (arith, ltb-true n 0 s))
+moved_down l u x (negsuc n) r g s e h = rw e at (falls l x r g h)
 
-is_up : (l : ℕ) (p : ℤ) (u : ℕ) → l ≤ most → lt_z p (pos 0) ≡ false → up l (product_of (nat_abs p) u (most - l)) ≡ level_of (sum_of l +ℤ p *ℤ pos u)
-is_up l (pos n) u g h = rises l n u g
-is_up l (negsuc n) u g h = absurd (false≢true (sym h))
-
--- by the product that was told, of a price as the machine has it
-module _ (l : ℕ) (p : ℤ) (u : ℕ) (low : l ≤ most) (f : SFits w64 p) (m : ℕ) (e : m ≡ nat_abs (to_z w64 (of_z w64 p))) (r x : Product) where
-  is_mag : m ≡ nat_abs p
-  is_mag = e ∙ ap nat_abs (to_z-of_z f)
-
-  pub moved_down : lt_z (to_z w64 (of_z w64 p)) (pos 0) ≡ true → r ≡ product_of m u l → r ≡ x → down l x ≡ level_of (sum_of l +ℤ p *ℤ pos u)
-  moved_down h g k =
-      ap (down l) (sym k ∙ g ∙ ap (λ (a : ℕ). product_of a u l) is_mag) ∙ is_down l p u low (rw (to_z-of_z f) at h)
-
-  pub moved_up : lt_z (to_z w64 (of_z w64 p)) (pos 0) ≡ false → r ≡ product_of m u (most - l) → r ≡ x → up l x ≡ level_of (sum_of l +ℤ p *ℤ pos u)
-  moved_up h g k =
-      ap (up l) (sym k ∙ g ∙ ap (λ (a : ℕ). product_of a u (most - l)) is_mag) ∙ is_up l p u low (rw (to_z-of_z f) at h)
-
-pub product_small : (m u room x : ℕ) → product_of m u room ≡ Product.Is x → x ≤ room
-product_small m u room x e = go (leb (m * u) room) refl e
-  where
-    go : (t : Bool) → leb (m * u) room ≡ t → cond t (Product.Is (m * u)) Product.Above ≡ Product.Is x → x ≤ room
-    go true h e = let k = leb-true (m * u) room h in let q : m * u ≡ x = cc in omega arith
-    go false h e = let z : ◌≡◌ {A = ℕ} 0 1 = cc in absurd (omega arith)
+-- no level is 2^64 from another
+pub moved_out : (l u : ℕ) (p : ℤ) → l ≤ most → (nat_abs p * u < 2 ^ 64 → ⊥) → None ≡ level_of (sum_of l +ℤ p *ℤ pos u)
+moved_out l u (pos n) g h = rises l (n * u) None g (λ k. h (omega arith))
+moved_out l u (negsuc n) g h = falls l (suc n * u) None g (λ k. h (omega arith))

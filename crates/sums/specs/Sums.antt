@@ -1,8 +1,7 @@
 -- Sums of whole numbers without bounds, and which of them fit a signed 64-bit number (document 02, K11).
-use Rattle.std.specs.Prelude.{Bool, cond, ◌&&◌, ℕ, ℤ, pos, negsuc, nat_abs, ◌+ℤ◌}
+use Rattle.std.specs.Prelude.{Bool, cond, ◌&&◌, ℕ, ℤ, pos, negsuc, nat_abs, ◌+ℤ◌, Option, None, Some}
 use Rattle.std.proofs.Math.IntN.{sub_ℕ}
 use Rattle.std.specs.Int.Signed.{le_z}
-use Rattle.sums.specs.declared.Level.{Level}
 
 -- The greatest signed number of 64 bits, 2^63 - 1, and how far the least one, -2^63, lies below -1.
 abbrev pub most_above : ℕ
@@ -24,5 +23,5 @@ unfoldable pub sum_of : ℕ → ℤ
 sum_of level = sub_ℕ level half
 
 -- The level of a sum that fits: the sum plus 2^63.
-unfoldable pub level_of : ℤ → Level
-level_of z = cond (fits z) (Level.At (nat_abs (z +ℤ pos half))) Level.Out
+unfoldable pub level_of : ℤ → Option ℕ
+level_of z = cond (fits z) (Some (nat_abs (z +ℤ pos half))) None

@@ -6,5 +6,5 @@ use Rattle.lots.proofs.date.Goals as goal
 
 pub returns : goal.returns
 returns c =
-    let e = c.in-Is.is in
-    rw (e, to_z-of_z {w = w64} {z = c.in-Is.s.sum} (record { sfits = omega arith }))
+    let e = c.in-Some.is in
+    rw (e, to_z-of_z {w = w64} {z = c.in-Some.s.sum} (record { sfits = omega arith }))
