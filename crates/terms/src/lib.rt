@@ -3,37 +3,30 @@
 #![tactic(auto)]
 
 ghost use Rattle.std.specs.Prelude.{◌≡◌, ◌≤◌};
-ghost use Rattle.terms.specs.Terms.{due, refusal_of};
+ghost use Rattle.terms.specs.Terms.{due, refusal_of, refused_as};
 
 use heading::Heading;
+use message::Answer;
 
-// Snapshot: not followed.
-const NOT_OURS: u64 = 5;
-// Snapshot: already Live.
-const ALREADY_LIVE: u64 = 6;
-// S below B.
-const BELOW: u64 = 7;
-// S above H.
-const ABOVE: u64 = 8;
-
-// Why a snapshot for the instrument at index i is refused, or 0.
-pub fn refusal(h: Heading, i: usize, last: u64) -> u64
+// Why a snapshot for the instrument at index i is refused, if it is.
+#[tactic(auto, unfolding(crate::specs::Terms::refusal_of))]
+pub fn refusal(h: Heading, i: usize, last: u64) -> Result<(), Answer>
     requires { h.followed ≤ 16 }
-    ensures { result ≡ refusal_of h i last }
+    ensures { refused_as result ≡ refusal_of h i last }
 {
     if h.followed <= i {
-        return NOT_OURS;
+        return Err(Answer::NotOurs);
     }
     if !h.waits(i) {
-        return ALREADY_LIVE;
+        return Err(Answer::AlreadyLive);
     }
     if last < h.base {
-        return BELOW;
+        return Err(Answer::Below);
     }
     if h.number < last {
-        return ABOVE;
+        return Err(Answer::Above);
     }
-    0
+    Ok(())
 }
 
 // Whether a queued entry for `who` of message n is one for instrument i, or for all, with a number above `last`.
@@ -41,5 +34,5 @@ pub fn is_due(i: usize, last: u64, who: u64, what: u64, n: u64) -> bool
     ensures { result ≡ due i last who what n }
 {
     let me = i as u64;
-    ((what == book::J_FOR_ALL) | (who == me)) & (last < n)
+    (what == book::J_FOR_ALL || who == me) && last < n
 }
