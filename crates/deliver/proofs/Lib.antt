@@ -3,4 +3,3 @@ pub mod Working
 pub mod Applying
 pub mod Breaking
 pub mod Giving
-pub mod Ways

@@ -7,7 +7,9 @@ use lib.Seq.{sets}
 use Rattle.book.specs.declared.Side.{Side}
 use Rattle.book.specs.declared.Update.{Update}
 use Rattle.book.specs.Sides.{Done, breach_of, first_changed}
-use Rattle.book.proofs.Breaches.{step_reason, step_refused}
+use Rattle.book.specs.declared.reasons.Breach.{Breach}
+use Rattle.book.specs.Results.{reason_number}
+use Rattle.book.proofs.Breaches.{step_reason, refused_by}
 use Rattle.book.proofs.Untouched.{before_changed}
 use Rattle.cells.specs.Cells.{side_at, side_words, side_size}
 use Rattle.cells.proofs.Windows.{length_side_at, side_again}
@@ -16,21 +18,22 @@ use Rattle.deliver.specs.Gives.{taken, worked, on_side_s}
 taken_by : {r q : ℕ} {xs ys : List ℕ} → r ≡ q → xs ≡ ys → taken r xs ≡ taken q ys
 taken_by h g = cc
 
--- s is the side at a, and r its breach
-module _ (xs : List ℕ) (a : ℕ) (u : Update) {s : Side} (at : s ≡ side_at xs a) {r : ℕ} (reason : r ≡ breach_of s.held u.action u.place) where
+-- s is the side at a
+module _ (xs : List ℕ) (a : ℕ) (u : Update) {s : Side} (at : s ≡ side_at xs a) where
   steps : taken (worked s u).reason (sets xs a (side_words (worked s u).side)) ≡ on_side_s a u xs
   steps = ap (λ (t : Side). taken (worked t u).reason (sets xs a (side_words (worked t u).side))) at
 
-  pub side_refused : a + side_size ≤ length xs → (r ≡ 0 → ⊥) → taken r xs ≡ on_side_s a u xs
-  side_refused h n =
-      let e = step_refused s u.action u.place u.entry (λ z. n (reason ∙ z)) in
+  pub side_refused : a + side_size ≤ length xs → (why : Breach) → reason_number why ≡ breach_of s.held u.action u.place
+      → taken (reason_number why) xs ≡ on_side_s a u xs
+  side_refused h why r =
+      let e = refused_by s u.action u.place u.entry why r in
       let w : sets xs a (side_words s) ≡ xs = ap (λ (t : Side). sets xs a (side_words t)) at ∙ side_again xs a h in
-      taken_by (reason ∙ ap (λ (d : Done). d.reason) e) (sym w ∙ ap (λ (d : Done). sets xs a (side_words d.side)) e)
+      taken_by (ap (λ (d : Done). d.reason) e) (sym w ∙ ap (λ (d : Done). sets xs a (side_words d.side)) e)
       ∙ steps
 
-  pub side_worked : {t : Side} → r ≡ 0 → t ≡ (worked s u).side → taken 0 (sets xs a (side_words t)) ≡ on_side_s a u xs
-  side_worked z h =
-      taken_by (sym z ∙ reason ∙ sym (step_reason s u.action u.place u.entry)) (ap (λ (t : Side). sets xs a (side_words t)) h) ∙ steps
+  pub side_worked : {t : Side} → 0 ≡ breach_of s.held u.action u.place → t ≡ (worked s u).side → taken 0 (sets xs a (side_words t)) ≡ on_side_s a u xs
+  side_worked r h =
+      taken_by (r ∙ sym (step_reason s u.action u.place u.entry)) (ap (λ (t : Side). sets xs a (side_words t)) h) ∙ steps
 
 -- the places before the first that the entry may change stand there already
 pub side_stands : (xs : List ℕ) (a : ℕ) (u : Update) {s t : Side} {from : ℕ} → s ≡ side_at xs a → t ≡ (worked s u).side
