@@ -1,8 +1,9 @@
 -- The queue in the store: what joins it, and how it is let go.
-use Rattle.std.specs.Prelude.{◌≡◌, Bool, cond, List, [], ◌∷◌, ℕ, ◌+◌, ltb, eqb}
+use Rattle.std.specs.Prelude.{◌≡◌, Bool, cond, List, [], ◌∷◌, ℕ, ◌+◌, Result, Ok, Err, ltb, eqb}
 use Rattle.std.proofs.lemmas.List.Edits.{sets}
 use Rattle.book.specs.declared.Update.{Update}
 use Rattle.cells.specs.Cells.{zeros, queued_words}
+use Rattle.heading.specs.declared.Heading.{Heading}
 use Rattle.heading.specs.Headings.{let_go, queued_more}
 use Rattle.board.specs.Count.{most_queued}
 use Rattle.store.specs.Layout.{at_queue, queue_size, slot_of}
@@ -37,6 +38,11 @@ over_s us s = ltb most_queued (s.head.queued + how_many s.head.followed us)
 -- All of a message join, or the queue is let go.
 unfoldable pub join_s : ℕ → List Update → State → State
 join_s n us s = cond (over_s us s) (let_go_s s) (join_all_s n us s)
+
+-- The heading that the code answers, whichever way it went.
+abbrev pub either : Result Heading Heading → Heading
+either (Ok h) = h
+either (Err h) = h
 
 -- What the code answers: whether it was let go, and the heading and the store.
 pub record Joins (n : ℕ) (us : List Update) (s : State) (o : Bool) (t : State) : Type 0 where
