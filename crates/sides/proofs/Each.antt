@@ -3,13 +3,14 @@ use mathlib.Core.Path.{◌≡◌, refl, sym, ap, ◌∙◌}
 use mathlib.Core.Bool.{Bool, true, false, ◌&&◌}
 use mathlib.Core.List.{List}
 use mathlib.Core.Logic.{⊎_elim}
-use Prim.Native.Nat.{ℕ, zero, suc, ◌+◌, ◌*◌, ◌-◌, ◌/◌, ◌<◌}
+use Prim.Native.Nat.{ℕ, zero, suc, ◌+◌, ◌*◌, ◌-◌, ◌/◌, ◌<◌, ◌≤◌}
 use native.Mathlib.Nat.{eq-or-lt_of_le, le_of_suc-le-suc}
 use native.Mathlib.Numerals.{add-one}
 use native.Mathlib.Omega.{arith}
 use lib.Dec.{eqb}
 use lib.Bits.{bit_or, or_zero_l, or_add_and, and_le_r}
-use lib.ListN.{get_or}
+use lib.ListN.{length, get_or, take, drop, length-drop}
+use lib.Seq.{get_or-take, get_or-drop, length-take-le}
 use borrow.Author.Tests.{eqb-true, eqb-false, eq-eqb, ne_eqb}
 use Rattle.board.proofs.Tested.{both}
 use Rattle.sides.specs.Side.{each, all_zero}
@@ -113,3 +114,16 @@ or_zero a b = join_zero a b (eqb a 0) (eqb b 0) refl refl
 pub zero_turn : (xs : List ℕ) (at i a : ℕ) → eqb a 0 ≡ all_zero xs at i → eqb (bit_or a (get_or xs (at + i) 0)) 0 ≡ all_zero xs at (i + 1)
 zero_turn xs at i a h =
     or_zero a (get_or xs (at + i) 0) ∙ ap (λ (t : Bool). t && eqb (get_or xs (at + i) 0) 0) h ∙ sym (zero_more xs at i)
+
+-- the same in a walk along the n numbers from `at` on, as the code lends them
+pub part_long : (xs : List ℕ) (at n : ℕ) → at + n ≤ length xs → length (take (at + n - at) (drop at xs)) ≡ n
+part_long xs at n h =
+    let q : at + n - at ≡ n = omega arith in
+    rw q (length-take-le n (drop at xs) (omega (arith, length-drop at xs)))
+
+pub part_turn : (xs : List ℕ) (at n i a : ℕ) → i < n → eqb a 0 ≡ all_zero xs at i
+    → eqb (bit_or a (get_or (take (at + n - at) (drop at xs)) i 0)) 0 ≡ all_zero xs at (i + 1)
+part_turn xs at n i a l h =
+    let x : get_or (take (at + n - at) (drop at xs)) i 0 ≡ get_or xs (at + i) 0 =
+    get_or-take (at + n - at) (drop at xs) i 0 (omega arith) ∙ get_or-drop at xs i 0 in
+    rw x (zero_turn xs at i a h)

@@ -11,16 +11,32 @@ pub const MOST_SIZE: u64 = 999999999999;
 // A moment is below this many.
 pub const MOMENTS: u64 = 320829012000000;
 
+// The limits of an entry's `by` and `more` on a depth kind: `by` is at most `most`, and `more` too, but 0 beside a `by` below `full`.
+#[derive(Clone, Copy)]
+pub struct Limits {
+    pub most: u64,
+    pub full: u64,
+}
+
+impl Limits {
+    // The most that `more` may be beside `by`.
+    #[tactic(auto, unfolding(crate::specs::Side::more_to))]
+    fn more_to(self, by: u64) -> u64
+        ensures { result ≡ more_to self.most self.full by }
+    {
+        if by < self.full { 0 } else { self.most }
+    }
+}
+
 // The n numbers from `at` on joined by `|`, with no way out of the loop: several are taken at a time.
+#[tactic(auto, using(crate::proofs::Each::zero_none, crate::proofs::Each::part_long, crate::proofs::Each::part_turn))]
 pub fn joined(store: &[u64], at: usize, n: usize) -> u64
     requires { at + n ≤ length store.now }
     ensures { eqb result 0 ≡ all_zero store.now at n }
 {
-    let mut acc = 0u64;
-    let mut i = 0usize;
-    while i < n {
-        acc = acc | store[at + i];
-        i += 1;
+    let mut acc = 0;
+    for x in &store[at..at + n] {
+        acc |= *x;
     }
     acc
 }
@@ -34,6 +50,7 @@ pub fn zero(store: &[u64], at: usize, n: usize) -> bool
 }
 
 // The same of a long run: its quarters side by side, so that a join need not wait for the one before it.
+#[tactic(auto, using(crate::proofs::Each::zero_none, crate::proofs::Each::zero_turn))]
 pub fn zeros(store: &[u64], at: usize, n: usize) -> bool
     requires { at + n ≤ length store.now }
     ensures { result ≡ all_zero store.now at n }
@@ -42,36 +59,25 @@ pub fn zeros(store: &[u64], at: usize, n: usize) -> bool
     let second = at + h;
     let third = second + h;
     let fourth = third + h;
-    let mut a = 0u64;
-    let mut b = 0u64;
-    let mut c = 0u64;
-    let mut d = 0u64;
-    let mut i = 0usize;
-    while i < h {
-        a = a | store[at + i];
-        b = b | store[second + i];
-        c = c | store[third + i];
-        d = d | store[fourth + i];
-        i += 1;
+    let mut a = 0;
+    let mut b = 0;
+    let mut c = 0;
+    let mut d = 0;
+    for i in 0..h {
+        a |= store[at + i];
+        b |= store[second + i];
+        c |= store[third + i];
+        d |= store[fourth + i];
     }
     let last = zero(store, fourth + h, n - 4 * h);
     (a == 0) & (b == 0) & (c == 0) & (d == 0) & last
 }
 
-// The most that `more` may be beside `by`.
-fn more_to(by: u64, most: u64, full: u64) -> u64
-    ensures { result ≡ more_to most full by }
-{
-    if by < full {
-        return 0;
-    }
-    most
-}
-
 // An entry that is used. Each test leaves by itself: a sound store passes them all, so the processor foresees them.
-pub fn entry(store: &[u64], at: usize, most: u64, full: u64) -> bool
+#[tactic(auto, unfolding(crate::specs::Side::entry_scan))]
+pub fn entry(store: &[u64], at: usize, limits: Limits) -> bool
     requires { at + 5 ≤ length store.now }
-    ensures { result ≡ entry_scan most full store.now at }
+    ensures { result ≡ entry_scan limits.most limits.full store.now at }
 {
     if holding::MOST_HELD < store[at] {
         return false;
@@ -81,54 +87,50 @@ pub fn entry(store: &[u64], at: usize, most: u64, full: u64) -> bool
         return false;
     }
     let by = store[at + 2];
-    if (by < 1) | (most < by) {
+    if (by < 1) | (limits.most < by) {
         return false;
     }
-    let more = more_to(by, most, full);
-    if more < store[at + 3] {
+    if limits.more_to(by) < store[at + 3] {
         return false;
     }
     store[at + 4] < MOMENTS
 }
 
 // n places from `at` on.
-pub fn places(store: &[u64], at: usize, n: usize, most: u64, full: u64) -> bool
+#[tactic(auto, using(crate::proofs::Each::each_none, crate::proofs::Each::each_more))]
+pub fn places(store: &[u64], at: usize, n: usize, limits: Limits) -> bool
     requires { at + n * 5 ≤ length store.now }
-    ensures { result ≡ each (λ (k : ℕ). entry_scan most full store.now (at + k * 5)) n }
+    ensures { result ≡ each (λ (k : ℕ). entry_scan limits.most limits.full store.now (at + k * 5)) n }
 {
-    let mut i = 0usize;
-    let mut o = at;
-    while i < n {
-        if !entry(store, o, most, full) {
+    for i in 0..n {
+        if !entry(store, at + i * cells::ENTRY, limits) {
             return false;
         }
-        i += 1;
-        o += cells::ENTRY;
     }
     true
 }
 
 // The places of instrument i: none where it is Waiting.
+#[tactic(auto, unfolding(crate::specs::Side::room_of, heading::specs::Marks::marked))]
 pub fn room_of(marks: u64, i: usize) -> usize
     requires { i < 16 }
     ensures { (result ≡ room_of marks i) × (result ≤ 20) }
 {
     if (marks >> i) % 2 == 1 {
-        return 0;
+        0
+    } else {
+        book::PLACES
     }
-    book::PLACES
 }
 
 // A side with room for so many places.
-pub fn side(store: &[u64], at: usize, room: usize, most: u64, full: u64) -> bool
+#[tactic(auto, unfolding(crate::specs::Side::side_scan))]
+pub fn side(store: &[u64], at: usize, room: usize, limits: Limits) -> bool
     requires { (at + 128 ≤ length store.now) × (room ≤ 20) }
-    ensures { result ≡ side_scan room most full store.now at }
+    ensures { result ≡ side_scan room limits.most limits.full store.now at }
 {
     let n = store[at] as usize;
-    if room < n {
-        return false;
-    }
-    if !places(store, at + 1, n, most, full) {
+    if room < n || !places(store, at + 1, n, limits) {
         return false;
     }
     let unused = zero(

@@ -1,6 +1,7 @@
 -- Laws of places tested by column, for the numbers that the code joins by `|`.
-use Rattle.std.proofs.Common.{◌≡◌, ℕ, zero, suc, ◌+◌, ◌-◌, ◌*◌, ◌/◌, ◌%◌, ◌^◌, ◌<◌, ◌≤◌, Bool, true, false, cond, ◌&&◌, ◌||◌, eqb, ltb, leb, List, get_or, refl, true≢false, arith, ltb-false, ltb-true, le-ltb, lt-ltb, eq-eqb, eqb-true, le-leb, leb-true}
+use Rattle.std.proofs.Common.{◌≡◌, ℕ, zero, suc, ◌+◌, ◌-◌, ◌*◌, ◌/◌, ◌%◌, ◌^◌, ◌<◌, ◌≤◌, Fits, w64, Bool, true, false, cond, not, ◌&&◌, ◌||◌, eqb, ltb, leb, List, get_or, refl, true≢false, arith, ltb-false, ltb-true, le-ltb, lt-ltb, eq-eqb, eqb-true, le-leb, leb-true}
 use mathlib.Core.Bool.{false≢true}
+use Rattle.std.specs.Prelude.{Option, Some, None, IfSome}
 use lib.Bits.{bit_or, or_add_and, and_le_l, and_le_r}
 use Rattle.holding.specs.Prices.{held_top}
 use Rattle.board.proofs.Tested.{both, is_within}
@@ -9,7 +10,7 @@ use Rattle.sides.proofs.Each.{each_of}
 use Rattle.sweep.specs.declared.Columns.{Columns}
 use Rattle.sweep.specs.declared.Way.{Way}
 use Rattle.sweep.specs.declared.Swept.{Swept}
-use Rattle.sweep.specs.Quick.{Spans, fits, Ids, Alone, Stands, Joins, Limits, few_of, Sides, Settles, settled_to}
+use Rattle.sweep.specs.Quick.{Spans, fits, joined, Ids, Alone, Stands, Joins, Keeps, few_of, Sides, Settles, settled_to}
 use Rattle.cells.specs.Cells.{side_size}
 use Rattle.store.specs.Layout.{side_spare}
 
@@ -50,15 +51,19 @@ four_spans xs at low a b c d ea eb ec ed = go
     go (suc (suc (suc zero))) l h = let q : at + 3 * 5 ≡ at + 15 = omega arith in rw q (unwrapped d low (get_or xs (at + 15) 0) r ed ld h)
     go (suc (suc (suc (suc k)))) l h = absurd (omega arith)
 
+-- a number less `low`, wrapped, is the number again with `low`
+pub wrapped : (x low : ℕ) → Fits w64 x → Fits w64 low → ((x + (2 ^ 64 - low)) % 2 ^ 64 + low) % 2 ^ 64 ≡ x
+wrapped x low h l = omega arith
+
 -- columns that fit, as facts and back
-pub record Fits (c : Columns) : Type 0 where
+pub record Fitting (c : Columns) : Type 0 where
   pub price : c.price ≤ held_top
   pub size : c.size < 999999999999
   pub moment : c.moment < 320829012000000
   pub even : c.even ≡ 0
   pub odd : c.odd ≡ 0
 
-pub fit_facts : (c : Columns) → fits c ≡ true → Fits c
+pub fit_facts : (c : Columns) → fits c ≡ true → Fitting c
 unfolding fits
 fit_facts c e =
     let p = leb c.price held_top in
@@ -78,7 +83,7 @@ fit_facts c e =
       odd = eqb-true c.odd 0 e4.1;
     }
 
-pub facts_fit : (c : Columns) → Fits c → fits c ≡ true
+pub facts_fit : (c : Columns) → Fitting c → fits c ≡ true
 unfolding fits
 facts_fit c f =
     rw (
@@ -89,15 +94,16 @@ facts_fit c f =
       eq-eqb c.odd 0 f.odd,
     )
 
--- four places joined to what was there
-module _ (xs : List ℕ) (at low : ℕ) (c : Columns) (p s b m t : ℕ) where
-  pub joins_four : Spans xs at 0 p → Spans xs (at + 1) 1 s → Spans xs (at + 2) low b → Spans xs (at + 3) 0 m → Spans xs (at + 4) 0 t
-      → (full : ℕ)
-      → Joins xs at 4 low full false c (record { price = bit_or c.price p; size = bit_or c.size s; by = bit_or c.by b; more = bit_or c.more m; moment = bit_or c.moment t; even = c.even; odd = c.odd })
-  joins_four P S B M T full = record { columns = columns; ids = ids; places = places }
+-- four places joined to what was there. Where words are mixed, e has those of the first and the third that stand beside a short first
+-- word, and o those of the others.
+module _ (xs : List ℕ) (at low full : ℕ) (mixed : Bool) (c d : Columns) where
+  pub joins_four : Spans xs at 0 d.price → Spans xs (at + 1) 1 d.size → Spans xs (at + 2) low d.by → Spans xs (at + 3) 0 d.more
+      → Spans xs (at + 4) 0 d.moment → (mixed ≡ true → d.even ≡ 0 → Alone full xs at × Alone full xs (at + 10))
+      → (mixed ≡ true → d.odd ≡ 0 → Alone full xs (at + 5) × Alone full xs (at + 5 + 10)) → Joins xs at 4 low full mixed c (joined c d)
+  joins_four P S B M T E O = record { columns = columns; ids = ids; places = places }
     where
       r : Columns
-      r = record { price = bit_or c.price p; size = bit_or c.size s; by = bit_or c.by b; more = bit_or c.more m; moment = bit_or c.moment t; even = c.even; odd = c.odd }
+      r = joined c d
 
       columns : fits r ≡ true → fits c ≡ true
       columns e =
@@ -105,31 +111,49 @@ module _ (xs : List ℕ) (at low : ℕ) (c : Columns) (p s b m t : ℕ) where
           let fp = f.price in
           let fs = f.size in
           let ft = f.moment in
+          let fe = f.even in
+          let fo = f.odd in
           facts_fit c (record {
-            price = omega (arith, or_l c.price p, fp);
-            size = omega (arith, or_l c.size s, fs);
-            moment = omega (arith, or_l c.moment t, ft);
-            even = f.even;
-            odd = f.odd;
+            price = omega (arith, or_l c.price d.price, fp);
+            size = omega (arith, or_l c.size d.size, fs);
+            moment = omega (arith, or_l c.moment d.moment, ft);
+            even = omega (arith, or_l c.even d.even, fe);
+            odd = omega (arith, or_l c.odd d.odd, fo);
           })
 
       ids : (most top : ℕ) → Ids low most top r → Ids low most top c
-      ids most top i = (omega (arith, or_l c.by b, i.0), omega (arith, or_l c.more m, i.1))
+      ids most top i = (omega (arith, or_l c.by d.by, i.0), omega (arith, or_l c.more d.more, i.1))
+
+      alone : fits r ≡ true → mixed ≡ true → (k : ℕ) → k < 4 → Alone full xs (at + k * 5)
+      alone g mx k l = go k l
+        where
+          ez : d.even ≡ 0
+          ez = let fe = (fit_facts r g).even in omega (arith, or_r c.even d.even, fe)
+
+          oz : d.odd ≡ 0
+          oz = let fo = (fit_facts r g).odd in omega (arith, or_r c.odd d.odd, fo)
+
+          go : (k : ℕ) → k < 4 → Alone full xs (at + k * 5)
+          go zero l = let q : at + 0 * 5 ≡ at = omega arith in rw q (E mx ez).0
+          go (suc zero) l = let q : at + 1 * 5 ≡ at + 5 = omega arith in rw q (O mx oz).0
+          go (suc (suc zero)) l = let q : at + 2 * 5 ≡ at + 10 = omega arith in rw q (E mx ez).1
+          go (suc (suc (suc zero))) l = let q : at + 3 * 5 ≡ at + 5 + 10 = omega arith in rw q (O mx oz).1
+          go (suc (suc (suc (suc k)))) l = absurd (omega arith)
 
       places : (most top : ℕ) → most < 2 ^ 64 → top < 2 ^ 64 → fits r ≡ true → Ids low most top r → (k : ℕ) → k < 4
-          → Stands low most top full false xs (at + k * 5)
-      places most top lm lt e i k l =
-          let f = fit_facts r e in
+          → Stands low most top full mixed xs (at + k * 5)
+      places most top lm lt g i k l =
+          let f = fit_facts r g in
           let fp = f.price in
           let fs = f.size in
           let ft = f.moment in
           let ib = i.0 in
           let im = i.1 in
-          let p1 = or_r c.price p in
-          let s1 = or_r c.size s in
-          let b1 = or_r c.by b in
-          let m1 = or_r c.more m in
-          let t1 = or_r c.moment t in
+          let p1 = or_r c.price d.price in
+          let s1 = or_r c.size d.size in
+          let b1 = or_r c.by d.by in
+          let m1 = or_r c.more d.more in
+          let t1 = or_r c.moment d.moment in
           let q1 : at + 1 + k * 5 ≡ at + k * 5 + 1 = omega arith in
           let q2 : at + 2 + k * 5 ≡ at + k * 5 + 2 = omega arith in
           let q3 : at + 3 + k * 5 ≡ at + k * 5 + 3 = omega arith in
@@ -145,53 +169,12 @@ module _ (xs : List ℕ) (at low : ℕ) (c : Columns) (p s b m t : ℕ) where
             by = (hb.0, omega (arith, hb.1, b1, ib));
             more = omega (arith, hm.1, m1, im);
             moment = omega (arith, ht.1, t1, ft);
-            alone = λ e. absurd (false≢true e);
+            alone = λ mx. alone g mx k l;
           }
 
--- four places whose second words were held against the first ones: e of the first and the third, o of the others
-module _ (xs : List ℕ) (at low full : ℕ) (c t : Columns) (e o : ℕ) where
-  pub joins_mixed : Joins xs at 4 low full false c t → (e ≡ 0 → Alone full xs at × Alone full xs (at + 10))
-      → (o ≡ 0 → Alone full xs (at + 5) × Alone full xs (at + 5 + 10))
-      → Joins xs at 4 low full true c (record { size = t.size; by = t.by; more = t.more; moment = t.moment; even = bit_or t.even e; odd = bit_or t.odd o; price = t.price })
-  joins_mixed J E O = record { columns = λ f. J.columns (before f); ids = J.ids; places = places }
-    where
-      r : Columns
-      r = record { size = t.size; by = t.by; more = t.more; moment = t.moment; even = bit_or t.even e; odd = bit_or t.odd o; price = t.price }
-
-      before : fits r ≡ true → fits t ≡ true
-      before g =
-          let f = fit_facts r g in
-          let fe = f.even in
-          let fo = f.odd in
-          facts_fit t (record {
-            price = f.price;
-            size = f.size;
-            moment = f.moment;
-            even = omega (arith, or_l t.even e, fe);
-            odd = omega (arith, or_l t.odd o, fo);
-          })
-
-      alone : fits r ≡ true → (k : ℕ) → k < 4 → Alone full xs (at + k * 5)
-      alone g k l = go k l
-        where
-          ez : e ≡ 0
-          ez = let fe = (fit_facts r g).even in omega (arith, or_r t.even e, fe)
-
-          oz : o ≡ 0
-          oz = let fo = (fit_facts r g).odd in omega (arith, or_r t.odd o, fo)
-
-          go : (k : ℕ) → k < 4 → Alone full xs (at + k * 5)
-          go zero l = let q : at + 0 * 5 ≡ at = omega arith in rw q (E ez).0
-          go (suc zero) l = let q : at + 1 * 5 ≡ at + 5 = omega arith in rw q (O oz).0
-          go (suc (suc zero)) l = let q : at + 2 * 5 ≡ at + 10 = omega arith in rw q (E ez).1
-          go (suc (suc (suc zero))) l = let q : at + 3 * 5 ≡ at + 5 + 10 = omega arith in rw q (O oz).1
-          go (suc (suc (suc (suc k)))) l = absurd (omega arith)
-
-      places : (most top : ℕ) → most < 2 ^ 64 → top < 2 ^ 64 → fits r ≡ true → Ids low most top r → (k : ℕ) → k < 4
-          → Stands low most top full true xs (at + k * 5)
-      places most top lm lt g i k l =
-          let s = J.places most top lm lt (before g) i k l in
-          record { price = s.price; size = s.size; by = s.by; more = s.more; moment = s.moment; alone = λ _. alone g k l }
+-- a const parameter that is false, as a number, where it is true
+pub not_mixed : {P : Type 0} (m : ℕ) → m ≡ 0 → not (eqb m 0) ≡ true → P
+not_mixed m e t = absurd (false≢true (rw e at t))
 
 pub joins_none : (xs : List ℕ) (at low full : ℕ) (mixed : Bool) (c : Columns) → Joins xs at 0 low full mixed c c
 joins_none xs at low full mixed c =
@@ -215,12 +198,8 @@ joins_more xs at m n low full mixed c r t h A B =
         let w : at + n * 5 + (k - n) * 5 ≡ at + k * 5 = omega (arith, g) in
         rw w at (B.places most top lm lt e i (k - n) (omega (arith, g, l)))
 
--- the way that a test has found
-pub joins_as : (xs : List ℕ) (at n low full : ℕ) (m b : Bool) (c r : Columns) → m ≡ b → Joins xs at n low full b c r → Joins xs at n low full m c r
-joins_as xs at n low full m b c r e J = rw e J
-
 -- an entry that lies within the limits of a way is used
-pub used : (w : Way) (most full : ℕ) (xs : List ℕ) (at : ℕ) → Limits w most full → Stands w.low most w.top full w.mixed xs at
+pub used : (w : Way) (most full : ℕ) (xs : List ℕ) (at : ℕ) → Keeps w most full → Stands w.low most w.top full w.mixed xs at
     → entry_scan most full xs at ≡ true
 unfolding entry_scan
 used w most full xs at L s =
@@ -265,14 +244,14 @@ side_more P from j A p i f l = go (ltb i j) refl
     go false e = let h = ltb-false i j e in let q : j ≡ i = omega (arith, h, l) in rw q at p
 
 -- the limits of the three ways: no id has a second word; the first word of each has 8 bytes; words are mixed
-pub limits_short : (most full : ℕ) → 1 ≤ most → most < 2 ^ 64 → Limits (record { low = 1; top = 0; mixed = false }) most full
+pub limits_short : (most full : ℕ) → 1 ≤ most → most < 2 ^ 64 → Keeps (record { low = 1; top = 0; mixed = false }) most full
 limits_short most full h l = (omega arith, h, l, omega arith, λ b m lb lm a. omega (arith, lm))
 
-pub limits_long : (most full : ℕ) → 1 ≤ full → full ≤ most → most < 2 ^ 64 → Limits (record { low = full; top = most; mixed = false }) most full
+pub limits_long : (most full : ℕ) → 1 ≤ full → full ≤ most → most < 2 ^ 64 → Keeps (record { low = full; top = most; mixed = false }) most full
 unfolding more_to
 limits_long most full h g l = (h, g, l, l, λ b m lb lm a. rw (le-ltb b full lb) lm)
 
-pub limits_mixed : (most full : ℕ) → 1 ≤ most → most < 2 ^ 64 → Limits (record { low = 1; top = most; mixed = true }) most full
+pub limits_mixed : (most full : ℕ) → 1 ≤ most → most < 2 ^ 64 → Keeps (record { low = 1; top = most; mixed = true }) most full
 unfolding more_to
 limits_mixed most full h l = (omega arith, h, l, l, λ b m lb lm a. go b m lm (a refl) (ltb b full) refl)
   where
@@ -305,9 +284,10 @@ pub alone : (full : ℕ) (xs : List ℕ) (at a : ℕ) → a ≡ cond (ltb (get_o
 alone full xs at a e z l = let q = rw (lt-ltb (get_or xs (at + 2) 0) full l) at e in omega (arith, q, z)
 
 -- what was swept settles the sides up to n, the answer of `settled`
-pub settles : (w : Way) (most full marks : ℕ) (xs : List ℕ) (from n : ℕ) (s : Swept) → Settles w most full marks xs from s → Limits w most full
+pub settles : (w : Way) (most full marks : ℕ) (xs : List ℕ) (from n : ℕ) (s : Option Swept) → IfSome s (Settles w most full marks xs from) → Keeps w most full
     → n ≡ settled_to s from → Sides most full marks xs from n
-settles w most full marks xs from n s S L e = go (fits s.columns) (eqb s.rest 0) refl refl e
+settles w most full marks xs from n None S L e = λ j h l. absurd (omega (arith, e, h, l))
+settles w most full marks xs from n (Some s) S L e = go (fits s.columns) (eqb s.rest 0) refl refl e
   where
     go : (p q : Bool) → fits s.columns ≡ p → eqb s.rest 0 ≡ q → n ≡ cond (p && q) s.upto from → Sides most full marks xs from n
     go true true f z e = λ j h l. S L f (eqb-true s.rest 0 z) j h (omega (arith, e, l))

@@ -1,6 +1,6 @@
 -- Places tested by column: many numbers of one kind joined by `|` are each at most what comes of it. Where that stays within what
 -- each place must, all of them do; where it doesn't, it says nothing, and each place is tested by itself.
-use Rattle.std.specs.Prelude.{◌≡◌, ℕ, ◌+◌, ◌*◌, ◌/◌, ◌^◌, ◌<◌, ◌≤◌, Bool, true, cond, ◌&&◌, List, ◌==◌, nat_le, nat_lt, slice_index, slice_index_or}
+use Rattle.std.specs.Prelude.{◌≡◌, ℕ, ◌+◌, ◌*◌, ◌/◌, ◌^◌, ◌<◌, ◌≤◌, Bool, true, cond, ◌&&◌, List, ◌==◌, nat_le, nat_lt, slice_index, slice_index_or, bit_or, Option, Some, None}
 use Rattle.holding.specs.Prices.{held_top}
 use Rattle.board.specs.Ranges.{moment_fine}
 use Rattle.sides.specs.Side.{more_to, side_scan, room_of}
@@ -17,6 +17,11 @@ Spans xs at low r = (k : ℕ) → k < 4 → r + low < 2 ^ 64 → (low ≤ slice_
 unfoldable pub fits : Columns → Bool
 fits c =
     nat_le c.price held_top && nat_lt c.size 999999999999 && moment_fine c.moment && c.even == 0 && c.odd == 0
+
+-- Both by column.
+abbrev pub joined : Columns → Columns → Columns
+joined c d =
+    record { size = bit_or c.size d.size; by = bit_or c.by d.by; more = bit_or c.more d.more; moment = bit_or c.moment d.moment; even = bit_or c.even d.even; odd = bit_or c.odd d.odd; price = bit_or c.price d.price }
 
 -- Those of `by`, which has `low` taken off, and of `more` stay within `most` and `top`.
 abbrev pub Ids : ℕ → ℕ → ℕ → Columns → Type 0
@@ -44,8 +49,8 @@ pub record Joins (xs : List ℕ) (at n low full : ℕ) (mixed : Bool) (c r : Col
       → Stands low most top full mixed xs (at + k * 5)
 
 -- A way to take order ids whose limits lie within those of the depth kind.
-abbrev pub Limits : Way → ℕ → ℕ → Type 0
-Limits w most full =
+abbrev pub Keeps : Way → ℕ → ℕ → Type 0
+Keeps w most full =
     (1 ≤ w.low)
     × (w.low ≤ most)
     × (most < 2 ^ 64)
@@ -63,8 +68,9 @@ Sides most full marks xs from to = (j : ℕ) → from ≤ j → j < to → side_
 -- What was swept of the sides from `from` on settles that each is sound: where its columns fit, and the rest is 0.
 abbrev pub Settles : Way → ℕ → ℕ → ℕ → List ℕ → ℕ → Swept → Type 0
 Settles w most full marks xs from s =
-    Limits w most full → fits s.columns ≡ true → s.rest ≡ 0 → Sides most full marks xs from s.upto
+    Keeps w most full → fits s.columns ≡ true → s.rest ≡ 0 → Sides most full marks xs from s.upto
 
 -- The index of the side up to which that settles it.
-abbrev pub settled_to : Swept → ℕ → ℕ
-settled_to s from = cond (fits s.columns && s.rest == 0) s.upto from
+abbrev pub settled_to : Option Swept → ℕ → ℕ
+settled_to None from = from
+settled_to (Some s) from = cond (fits s.columns && s.rest == 0) s.upto from

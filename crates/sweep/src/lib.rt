@@ -2,18 +2,21 @@
 // compared once. Where that passes it settles every place; where it doesn't it says nothing, and crate scan tests place by place.
 #![tactic(auto)]
 
-ghost use Rattle.std.specs.Prelude.{◌≡◌, ℕ, ◌+◌, ◌-◌, ◌*◌, ◌≤◌, true, false, ◌&&◌, length, if◌then◌else◌, ◌==◌, nat_lt};
+ghost use Rattle.std.specs.Prelude.{◌≡◌, ℕ, ◌+◌, ◌-◌, ◌*◌, ◌≤◌, true, ◌&&◌, length, if◌then◌else◌, ◌==◌, nat_lt, IfSome};
 ghost use Rattle.store.specs.Layout.{store_size, side_spare};
 ghost use Rattle.sides.specs.Side.{all_zero};
-ghost use Rattle.sweep.specs.Quick.{Spans, fits, Alone, Joins, Limits, few_of, Sides, Settles, settled_to};
+ghost use Rattle.sweep.specs.Quick.{Spans, fits, joined, Alone, Joins, Keeps, few_of, Sides, Settles, settled_to};
 ghost use Rattle.cells.specs.Cells.{side_size};
+
+use sides::Limits;
+use std::ops::BitOr;
 
 // The numbers of four places.
 const FOUR: usize = 20;
 
 // Many places by column: each column's numbers, less the least that they may be, joined by `|`. `even` and `odd` have the second words
 // that stand beside a first one of fewer than 8 bytes. In this order the compiler takes neighbours two at a time.
-#[derive(Clone, Copy)]
+#[derive(Clone, Copy, Default)]
 struct Columns {
     size: u64,
     by: u64,
@@ -22,6 +25,39 @@ struct Columns {
     even: u64,
     odd: u64,
     price: u64,
+}
+
+impl Columns {
+    // Whether they stay within what every place must.
+    #[tactic(auto, unfolding(crate::specs::Quick::fits))]
+    fn fit(self) -> bool
+        ensures { result ≡ fits self }
+    {
+        (self.price <= holding::MOST_HELD)
+            & (self.size < sides::MOST_SIZE)
+            & (self.moment < sides::MOMENTS)
+            & (self.even == 0)
+            & (self.odd == 0)
+    }
+}
+
+// Both by column.
+impl BitOr for Columns {
+    type Output = Columns;
+
+    ghost bitor_gives = { λ c d r. r ≡ joined c d };
+
+    fn bitor(self, more: Columns) -> Columns {
+        Columns {
+            size: self.size | more.size,
+            by: self.by | more.by,
+            more: self.more | more.more,
+            moment: self.moment | more.moment,
+            even: self.even | more.even,
+            odd: self.odd | more.odd,
+            price: self.price | more.price,
+        }
+    }
 }
 
 // How order ids are taken: `by` is at least `low`, and `more` at most `top`. Where some ids are shorter than 8 bytes and others longer,
@@ -47,74 +83,18 @@ fn four(store: &[u64], at: usize, low: u64) -> u64
     requires { at + 16 ≤ length store.now }
     ensures { Spans store.now at low result }
 {
-    let a = std::num::wrapping_sub_u64(store[at], low);
-    let b = std::num::wrapping_sub_u64(store[at + 5], low);
-    let c = std::num::wrapping_sub_u64(store[at + 10], low);
-    let d = std::num::wrapping_sub_u64(store[at + 15], low);
+    let a = store[at].wrapping_sub(low);
+    let b = store[at + 5].wrapping_sub(low);
+    let c = store[at + 10].wrapping_sub(low);
+    let d = store[at + 15].wrapping_sub(low);
     (a | b) | (c | d)
-}
-
-// Four more places: enough in a row for the compiler to take neighbours as one.
-fn turn(store: &[u64], at: usize, low: u64, c: Columns) -> Columns
-    requires { at + 20 ≤ length store.now }
-    ensures { (full : ℕ) → Joins store.now at 4 low full false c result }
-{
-    let price = four(store, at, 0);
-    let size = four(store, at + 1, 1);
-    let by = four(store, at + 2, low);
-    let more = four(store, at + 3, 0);
-    let moment = four(store, at + 4, 0);
-    Columns {
-        size: c.size | size,
-        by: c.by | by,
-        more: c.more | more,
-        moment: c.moment | moment,
-        even: c.even,
-        odd: c.odd,
-        price: c.price | price,
-    }
-}
-
-// n fours of places.
-fn fours(store: &[u64], at: usize, n: usize, low: u64, c: Columns) -> Columns
-    requires { (at + n * 20 ≤ length store.now) × (n ≤ 5) }
-    ensures { (full : ℕ) → Joins store.now at (n * 4) low full false c result }
-{
-    let mut acc = c;
-    let mut i = 0usize;
-    let mut o = at;
-    while i < n {
-        acc = turn(store, o, low, acc);
-        i += 1;
-        o += FOUR;
-    }
-    acc
-}
-
-// n places of a side in fours, unless they are too few. The last four overlap those before them where n is no multiple of 4:
-// joined twice is joined.
-fn held(store: &[u64], at: usize, n: usize, low: u64, c: Columns) -> Columns
-    requires { (at + n * 5 ≤ length store.now) × (n ≤ 20) }
-    ensures { (full : ℕ) → Joins store.now at (n - few_of n) low full false c result }
-{
-    if n < 4 {
-        return c;
-    }
-    let acc = fours(store, at, n / 4, low, c);
-    if n % 4 == 0 {
-        return acc;
-    }
-    turn(store, at + (n - 4) * cells::ENTRY, low, acc)
 }
 
 // The second word of an order id, or 0 beside a first one of 8 bytes.
 fn beside(by: u64, more: u64, full: u64) -> u64
     ensures { result ≡ (if nat_lt by full then more else 0) }
 {
-    if by < full {
-        return more;
-    }
-    0
+    if by < full { more } else { 0 }
 }
 
 // Those of the places at `at` and two behind it, joined by `|`.
@@ -127,53 +107,75 @@ fn two(store: &[u64], at: usize, full: u64) -> u64
     a | b
 }
 
-// The same as `turn` where words are mixed. It goes through loops of its own, since a test in them would keep the compiler from
-// taking neighbours as one.
-fn turn_mixed(store: &[u64], at: usize, low: u64, full: u64, c: Columns) -> Columns
+// Four more places: enough in a row for the compiler to take neighbours as one. Where words are MIXED, the second ones are held
+// against the first ones. Each way is a loop of its own, since a test in it would keep the compiler from taking neighbours as one.
+fn turn<const MIXED: bool>(store: &[u64], at: usize, low: u64, full: u64, c: Columns) -> Columns
     requires { at + 20 ≤ length store.now }
-    ensures { Joins store.now at 4 low full true c result }
+    ensures { Joins store.now at 4 low full MIXED c result }
 {
-    let t = turn(store, at, low, c);
-    let even = two(store, at, full);
-    let odd = two(store, at + 5, full);
-    Columns {
-        size: t.size,
-        by: t.by,
-        more: t.more,
-        moment: t.moment,
-        even: t.even | even,
-        odd: t.odd | odd,
-        price: t.price,
+    let price = four(store, at, 0);
+    let size = four(store, at + 1, 1);
+    let by = four(store, at + 2, low);
+    let more = four(store, at + 3, 0);
+    let moment = four(store, at + 4, 0);
+    let (even, odd) = if MIXED {
+        (two(store, at, full), two(store, at + 5, full))
+    } else {
+        (0, 0)
+    };
+    c | Columns {
+        size,
+        by,
+        more,
+        moment,
+        even,
+        odd,
+        price,
     }
 }
 
-fn fours_mixed(store: &[u64], at: usize, n: usize, low: u64, full: u64, c: Columns) -> Columns
+// n fours of places.
+#[tactic(auto, using(crate::proofs::Columned::joins_none, crate::proofs::Columned::joins_more))]
+fn fours<const MIXED: bool>(
+    store: &[u64],
+    at: usize,
+    n: usize,
+    low: u64,
+    full: u64,
+    c: Columns,
+) -> Columns
     requires { (at + n * 20 ≤ length store.now) × (n ≤ 5) }
-    ensures { Joins store.now at (n * 4) low full true c result }
+    ensures { Joins store.now at (n * 4) low full MIXED c result }
 {
     let mut acc = c;
-    let mut i = 0usize;
-    let mut o = at;
-    while i < n {
-        acc = turn_mixed(store, o, low, full, acc);
-        i += 1;
-        o += FOUR;
+    for i in 0..n {
+        acc = turn::<MIXED>(store, at + i * FOUR, low, full, acc);
     }
     acc
 }
 
-fn held_mixed(store: &[u64], at: usize, n: usize, low: u64, full: u64, c: Columns) -> Columns
+// n places of a side in fours, unless they are too few. The last four overlap those before them where n is no multiple of 4:
+// joined twice is joined.
+#[tactic(auto, using(crate::proofs::Columned::joins_none, crate::proofs::Columned::joins_more, crate::proofs::Columned::few_all, crate::proofs::Columned::few_none))]
+fn held<const MIXED: bool>(
+    store: &[u64],
+    at: usize,
+    n: usize,
+    low: u64,
+    full: u64,
+    c: Columns,
+) -> Columns
     requires { (at + n * 5 ≤ length store.now) × (n ≤ 20) }
-    ensures { Joins store.now at (n - few_of n) low full true c result }
+    ensures { Joins store.now at (n - few_of n) low full MIXED c result }
 {
     if n < 4 {
         return c;
     }
-    let acc = fours_mixed(store, at, n / 4, low, full, c);
+    let acc = fours::<MIXED>(store, at, n / 4, low, full, c);
     if n % 4 == 0 {
         return acc;
     }
-    turn_mixed(store, at + (n - 4) * cells::ENTRY, low, full, acc)
+    turn::<MIXED>(store, at + (n - 4) * cells::ENTRY, low, full, acc)
 }
 
 // n places of a side, in the way that is asked for.
@@ -182,19 +184,18 @@ fn taken(store: &[u64], at: usize, n: usize, way: Way, full: u64, c: Columns) ->
     ensures { Joins store.now at (n - few_of n) way.low full way.mixed c result }
 {
     if way.mixed {
-        return held_mixed(store, at, n, way.low, full, c);
+        held::<true>(store, at, n, way.low, full, c)
+    } else {
+        held::<false>(store, at, n, way.low, full, c)
     }
-    held(store, at, n, way.low, c)
 }
 
 // How many of a side's n places are too few for a four.
+#[tactic(auto, unfolding(crate::specs::Quick::few_of))]
 fn few(n: usize) -> usize
     ensures { (result ≡ few_of n) × (result ≤ n) }
 {
-    if n < 4 {
-        return n;
-    }
-    0
+    if n < 4 { n } else { 0 }
 }
 
 // What is behind the n places of a side, joined by `|`.
@@ -211,84 +212,59 @@ fn behind(store: &[u64], at: usize, n: usize) -> u64
     unused | spare
 }
 
-// The columns of no place.
-fn no_columns() -> Columns {
-    Columns {
-        size: 0,
-        by: 0,
-        more: 0,
-        moment: 0,
-        even: 0,
-        odd: 0,
-        price: 0,
-    }
-}
-
 // The sides from the index `from` up to `to`, their places taken by column, so that each column of all sides is tested once. It stops
-// before a side whose order ids don't go the way that is asked for: what comes is of the sides before it. Where the tests don't pass
-// it says nothing: numbers that lie within a limit may reach above it when they are joined.
-fn sweep(store: &[u64], marks: u64, from: usize, to: usize, way: Way, most: u64, full: u64) -> Swept
-    requires { (store_size ≤ length store.now) × (to ≤ 32) × (way.low ≤ most) }
-    ensures { Settles way most full marks store.now from result }
+// before a side whose order ids don't go the way that is asked for: what comes is of the sides before it. None where a side isn't
+// sound in what is seen of it alone. Where the tests don't pass it says nothing: numbers that lie within a limit may reach above it
+// when they are joined.
+fn sweep(
+    store: &[u64],
+    marks: u64,
+    from: usize,
+    to: usize,
+    way: Way,
+    limits: Limits,
+) -> Option<Swept>
+    requires { (store_size ≤ length store.now) × (to ≤ 32) × (way.low ≤ limits.most) }
+    ensures { IfSome result (Settles way limits.most limits.full marks store.now from) }
 {
-    let none = no_columns();
-    let refused = Swept {
-        columns: none,
-        rest: 1,
-        upto: from,
-    };
-    let span = most - way.low;
-    let mut c = none;
-    let mut rest = 0u64;
-    let mut j = from;
-    while j < to {
+    let span = limits.most - way.low;
+    let mut c = Columns::default();
+    let mut rest = 0;
+    for j in from..to {
         let at = store::BIDS + j * store::SIDE;
         let n = store[at] as usize;
         if sides::room_of(marks, j / 2) < n {
-            return refused;
+            return None;
         }
-        c = taken(store, at + 1, n, way, full, c);
-        if !sides::places(store, at + 1, few(n), most, full) {
-            return refused;
+        c = taken(store, at + 1, n, way, limits.full, c);
+        if !sides::places(store, at + 1, few(n), limits) {
+            return None;
         }
         let seen = rest | behind(store, at, n);
         if (span < c.by) | (way.top < c.more) {
-            return Swept {
+            return Some(Swept {
                 columns: c,
                 rest,
                 upto: j,
-            };
+            });
         }
         rest = seen;
-        j += 1;
     }
-    Swept {
+    Some(Swept {
         columns: c,
         rest,
-        upto: j,
-    }
-}
-
-// Whether the columns stay within what every place must.
-fn fit(c: Columns) -> bool
-    ensures { result ≡ fits c }
-{
-    (c.price <= holding::MOST_HELD)
-        & (c.size < sides::MOST_SIZE)
-        & (c.moment < sides::MOMENTS)
-        & (c.even == 0)
-        & (c.odd == 0)
+        upto: to,
+    })
 }
 
 // The index of the side up to which what was swept from `from` on settles it.
-fn settled(s: Swept, from: usize) -> usize
-    ensures { result ≡ settled_to s from }
+fn settled(swept: Option<Swept>, from: usize) -> usize
+    ensures { result ≡ settled_to swept from }
 {
-    let c = s.columns;
-    if fit(c) & (s.rest == 0) {
-        return s.upto;
+    match swept {
+        Some(s) if s.columns.fit() & (s.rest == 0) => s.upto,
+        _ => from,
     }
-    from
 }
 
 // Where the places of the first of n sides start that holds a four, or those of the first side.
@@ -296,12 +272,11 @@ fn first_four(store: &[u64], n: usize) -> usize
     requires { (store_size ≤ length store.now) × (n ≤ 32) }
     ensures { result ≤ 4129 }
 {
-    let mut j = 0usize;
-    while j < n {
-        if 4 <= store[store::BIDS + j * store::SIDE] {
-            return store::BIDS + j * store::SIDE + 1;
+    for j in 0..n {
+        let at = store::BIDS + j * store::SIDE;
+        if 4 <= store[at] {
+            return at + 1;
         }
-        j += 1;
     }
     store::BIDS + 1
 }
@@ -309,7 +284,7 @@ fn first_four(store: &[u64], n: usize) -> usize
 // Words are mixed.
 fn mixed_way(most: u64) -> Way
     requires { 1 ≤ most }
-    ensures { (full : ℕ) → Limits result most full }
+    ensures { (full : ℕ) → Keeps result most full }
 {
     Way {
         low: 1,
@@ -320,9 +295,9 @@ fn mixed_way(most: u64) -> Way
 
 // The way that a four suggests for all: no id has a second word; or the first word of each has 8 bytes; or they are mixed. `by` has
 // `full` taken off.
-fn way_like(by: u64, more: u64, most: u64, full: u64) -> Way
-    requires { 1 ≤ most }
-    ensures { Limits result most full }
+fn way_like(by: u64, more: u64, limits: Limits) -> Way
+    requires { 1 ≤ limits.most }
+    ensures { Keeps result limits.most limits.full }
 {
     let short = Way {
         low: 1,
@@ -332,41 +307,41 @@ fn way_like(by: u64, more: u64, most: u64, full: u64) -> Way
     if more == 0 {
         return short;
     }
-    if (full < 1) | (most < full) {
+    if (limits.full < 1) | (limits.most < limits.full) {
         return short;
     }
-    if most - full < by {
-        return mixed_way(most);
+    if limits.most - limits.full < by {
+        return mixed_way(limits.most);
     }
     Way {
-        low: full,
-        top: most,
+        low: limits.full,
+        top: limits.most,
         mixed: false,
     }
 }
 
 // The way that the first four of n sides suggests.
-fn way_of(store: &[u64], n: usize, most: u64, full: u64) -> Way
-    requires { (store_size ≤ length store.now) × (n ≤ 32) × (1 ≤ most) }
-    ensures { Limits result most full }
+fn way_of(store: &[u64], n: usize, limits: Limits) -> Way
+    requires { (store_size ≤ length store.now) × (n ≤ 32) × (1 ≤ limits.most) }
+    ensures { Keeps result limits.most limits.full }
 {
     let at = first_four(store, n);
-    let by = four(store, at + 2, full);
+    let by = four(store, at + 2, limits.full);
     let more = four(store, at + 3, 0);
-    way_like(by, more, most, full)
+    way_like(by, more, limits)
 }
 
 // Whether the first n sides are sound: in the way that the first four suggests as far as that goes, and in the mixed one from there
 // on. False says nothing.
-pub fn tried(store: &[u64], marks: u64, n: usize, most: u64, full: u64) -> bool
-    requires { (store_size ≤ length store.now) × (n ≤ 32) × (1 ≤ most) }
-    ensures { result ≡ true → Sides most full marks store.now 0 n }
+pub fn tried(store: &[u64], marks: u64, n: usize, limits: Limits) -> bool
+    requires { (store_size ≤ length store.now) × (n ≤ 32) × (1 ≤ limits.most) }
+    ensures { result ≡ true → Sides limits.most limits.full marks store.now 0 n }
 {
-    let way = way_of(store, n, most, full);
-    let first = settled(sweep(store, marks, 0, n, way, most, full), 0);
+    let way = way_of(store, n, limits);
+    let first = settled(sweep(store, marks, 0, n, way, limits), 0);
     if first == n {
         return true;
     }
-    let mixed = mixed_way(most);
-    settled(sweep(store, marks, first, n, mixed, most, full), first) == n
+    let mixed = mixed_way(limits.most);
+    settled(sweep(store, marks, first, n, mixed, limits), first) == n
 }

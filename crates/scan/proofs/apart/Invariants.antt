@@ -1,6 +1,5 @@
 -- `apart` meets its contract: they rise, or none of those before i stands twice, so the others decide.
 use mathlib.Core.Path.{◌≡◌}
-use Prim.Native.Nat.{◌-◌}
 use lib.ListN.{drop}
 use Rattle.board.specs.Sound.{distinct}
 use Rattle.scan.specs.Scan.{spread}
@@ -8,6 +7,3 @@ use Rattle.scan.proofs.apart.Given as goal
 
 abbrev pub invariant-loop-i : goal.invariant-loop-i
 invariant-loop-i l = distinct (spread l.run l.at l.step l.n) ≡ distinct (drop l.i (spread l.run l.at l.step l.n))
-
-abbrev pub decreases-loop-i : goal.decreases-loop-i
-decreases-loop-i l = l.n - l.i

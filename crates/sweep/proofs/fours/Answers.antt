@@ -1,26 +1,18 @@
 -- `fours` meets its contract: the places so far are joined.
-use Rattle.std.proofs.Common.{◌≡◌, ℕ, ◌+◌, ◌*◌, false, arith}
-use Rattle.sweep.specs.Quick.{Joins}
-use Rattle.sweep.proofs.Columned.{joins_none, joins_more}
+use Rattle.std.proofs.Common.{◌≡◌, ◌+◌, ◌*◌, arith}
+use Rattle.sweep.proofs.Columned.{joins_more}
 use Rattle.sweep.proofs.fours.Goals as goal
 
-pub loop-i-init : goal.loop-i-init
-loop-i-init c = (omega arith, omega arith, λ full. joins_none _ _ _ _ _ _)
-
 pub loop-i-preserved : goal.loop-i-preserved
-loop-i-preserved c =
+loop-i-preserved g c =
     let l = c.loop-i in
     let a = c.args in
-    let q : l.o ≡ a.at + l.i * 4 * 5 = omega arith in
+    let q : a.at + l.i * 20 ≡ a.at + l.i * 4 * 5 = omega arith in
     let e : (l.i + 1) * 4 ≡ l.i * 4 + 4 = omega arith in
-    let m : (full : ℕ) → Joins a.store.now a.at (l.i * 4 + 4) a.low full false a.c c.turn-acc.result =
-    λ full.
-    joins_more a.store.now a.at (l.i * 4) (l.i * 4) a.low full false a.c l.acc c.turn-acc.result (omega arith) (l.invariant.2 full) (rw q at (c.turn-acc.ensures full))
-    in
-    (omega arith, omega arith, rw e m)
+    rw e (joins_more a.store.now a.at (l.i * 4) (l.i * 4) a.low a.full _ a.c l.acc _ (omega arith) l.invariant (rw q at c.turn-acc.ensures))
 
 pub returns : goal.returns
-returns c =
+returns g c =
     let l = c.loop-i in
     let q : l.i ≡ c.args.n = omega arith in
-    rw (← q) l.invariant.2
+    rw (← q) l.invariant

@@ -8,19 +8,19 @@ use Rattle.sweep.proofs.way_like.Goals as goal
 pub returns-then-more-eq0 : goal.returns-then-more-eq0
 returns-then-more-eq0 c = limits_short _ _ c.requires (omega arith)
 
-pub returns-then-full-most : goal.returns-then-full-most
-returns-then-full-most c = limits_short _ _ c.requires (omega arith)
+pub returns-then-limits : goal.returns-then-limits
+returns-then-limits c = limits_short _ _ c.requires (omega arith)
 
-pub overflow_sub-most : goal.overflow_sub-most
-overflow_sub-most c =
+pub overflow_sub-limits : goal.overflow_sub-limits
+overflow_sub-limits c =
     let a = c.args in
-    leb-true a.full a.most (both (leb 1 a.full) (leb a.full a.most) (inside 1 a.most a.full c.if-full-most.false)).1
+    leb-true a.limits.full a.limits.most (both (leb 1 a.limits.full) (leb a.limits.full a.limits.most) (inside 1 a.limits.most a.limits.full c.if-limits.false)).1
 
-pub returns-then-most-full : goal.returns-then-most-full
-returns-then-most-full c = c.mixed_way.ensures _
+pub returns-then-limits-by : goal.returns-then-limits-by
+returns-then-limits-by c = c.mixed_way.ensures _
 
 pub returns : goal.returns
 returns c =
     let a = c.args in
-    let p = both (leb 1 a.full) (leb a.full a.most) (inside 1 a.most a.full c.if-full-most.false) in
-    limits_long a.most a.full (leb-true 1 a.full p.0) (leb-true a.full a.most p.1) (omega (arith, c.ranges.most))
+    let p = both (leb 1 a.limits.full) (leb a.limits.full a.limits.most) (inside 1 a.limits.most a.limits.full c.if-limits.false) in
+    limits_long a.limits.most a.limits.full (leb-true 1 a.limits.full p.0) (leb-true a.limits.full a.limits.most p.1) (omega arith)
