@@ -19,34 +19,23 @@ const MOST_DEPTH: u64 = 1;
 fn ids_fine(ids: &[u64]) -> bool
     ensures { result ≡ all id_fine ids.now }
 {
-    let mut i = 0usize;
-    while i < ids.len() {
-        if !book::is_id(ids[i]) {
-            return false;
-        }
-        i += 1;
-    }
-    true
+    ids.iter().all(|id| book::is_id(*id))
 }
 
 // Whether opening takes them.
+#[tactic(auto, using(crate::proofs::Written::apart_all))]
 fn takes(depth: u64, ids: &[u64]) -> bool
     ensures { result ≡ opens depth ids.now }
 {
     let n = ids.len();
-    if MOST_DEPTH < depth {
+    if MOST_DEPTH < depth || n < 1 || store::MOST_INSTS < n {
         return false;
     }
-    if (n < 1) | (store::MOST_INSTS < n) {
-        return false;
-    }
-    if !scan::apart(ids, 0, 1, n) {
-        return false;
-    }
-    ids_fine(ids)
+    scan::apart(ids, 0, 1, n) && ids_fine(ids)
 }
 
 // The heading at opening: H and B are 0, all n instruments are Waiting.
+#[tactic(auto, unfolding(heading::specs::Marks::all_marks))]
 fn fresh(depth: u64, n: usize) -> Heading
     requires { (1 ≤ n) × (n ≤ 16) }
     ensures { result ≡ fresh_heading depth n }
@@ -57,7 +46,7 @@ fn fresh(depth: u64, n: usize) -> Heading
         number: 0,
         base: 0,
         heard: 0,
-        marks: 65535u16 >> (16 - n),
+        marks: u16::MAX >> (16 - n),
         queued: 0,
     }
 }
@@ -67,14 +56,13 @@ fn put_ids(store: &mut [u64], ids: &[u64])
     requires { (store_size ≤ length store.old) × (length ids.now ≤ 16) }
     ensures { store.new ≡ ids_in store.old 0 ids.now }
 {
-    let mut i = 0usize;
-    while i < ids.len() {
-        store[store::IDS + i * store::RECORD] = ids[i];
-        i += 1;
+    for (i, id) in ids.iter().enumerate() {
+        store[store::IDS + i * store::RECORD] = *id;
     }
 }
 
 // The opened channel's numbers, all 7,168 of them.
+#[tactic(auto, using(crate::proofs::Written::length_ids, crate::proofs::Written::opens_some))]
 fn write(store: &mut [u64], depth: u64, ids: &[u64])
     requires { (store_size ≤ length store.old) × (opens depth ids.now ≡ true) }
     ensures { store.new ≡ written (opened_channel depth ids.now) ++ drop store_size store.old }
@@ -87,6 +75,7 @@ fn write(store: &mut [u64], depth: u64, ids: &[u64])
 }
 
 // Opens the store: 17, then 18, else 0. A refusal changes nothing, and nothing beyond the 7,168 numbers changes.
+#[tactic(auto, unfolding(crate::specs::Opening::open_answer, crate::specs::Opening::open_store))]
 pub fn open_store(store: &mut [u64], depth: u64, ids: &[u64]) -> u64
     ensures { Opened depth ids.now store.old result store.new }
 {

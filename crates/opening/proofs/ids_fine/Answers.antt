@@ -1,28 +1,16 @@
--- `ids_fine` meets its contract: those before i are in range, so the others decide.
-use mathlib.Core.Path.{refl, sym, ◌∙◌}
-use native.Mathlib.Numerals.{add-one}
-use native.Mathlib.Omega.{arith}
-use lib.ListN.{drop_of_length-le}
-use lib.Seq.{drop-cons}
+-- `ids_fine` meets its contract: what `all` answers is the definition's own walk.
+use Rattle.std.proofs.Common.{ℕ, Bool, ◌≡◌, ◌&&◌, List, [], ◌∷◌, refl, ap, ◌∙◌, rules, tests}
+use Rattle.std.specs.List.{list_all}
+use Rattle.std.proofs.lemmas.Iterator.{YieldsList-from_slice}
+use Rattle.std.proofs.lemmas.Iterator.Search.{all_from_yields_List}
+use Rattle.board.specs.Ranges.{all, id_fine}
 use Rattle.opening.proofs.ids_fine.Goals as goal
 
-pub loop-i-init : goal.loop-i-init
-loop-i-init c = (omega arith, refl)
-
-pub returns-then-not-is_id : goal.returns-then-not-is_id
-returns-then-not-is_id c =
-    let l = c.loop-i in
-    let ids = c.args.ids.now in
-    sym (l.invariant.1 ∙ rw (drop-cons ids l.i 0 c.loop-i-test.true, sym c.is_id.ensures ∙ c.if-not-is_id.true))
-
-pub loop-i-preserved : goal.loop-i-preserved
-loop-i-preserved c =
-    let l = c.loop-i in
-    let ids = c.args.ids.now in
-    (omega arith, l.invariant.1 ∙ rw (add-one l.i, drop-cons ids l.i 0 c.loop-i-test.true, sym c.is_id.ensures ∙ c.if-not-is_id.false))
+each : (f : ℕ → Bool) (xs : List ℕ) → list_all f xs ≡ all f xs
+each f [] = refl
+each f (x ∷ xs) = ap (λ (b : Bool). f x && b) (each f xs)
 
 pub returns : goal.returns
 returns c =
-    let l = c.loop-i in
-    let ids = c.args.ids.now in
-    sym (l.invariant.1 ∙ rw (drop_of_length-le ids {i = l.i} c.loop-i-test.false))
+    let xs = c.args.ids.now in
+    all_from_yields_List id_fine _ _ _ c.all.ensures.ran (YieldsList-from_slice xs cc) (λ x b q k. search (rules, tests)) ∙ each id_fine xs

@@ -1,12 +1,8 @@
 -- `put_ids` meets its contract: those before i stand in their records, and the others are left.
 use mathlib.Core.Path.{◌≡◌}
-use Prim.Native.Nat.{◌-◌, ◌≤◌}
-use lib.ListN.{length, drop}
+use lib.ListN.{drop}
 use Rattle.opening.specs.Steps.{ids_in}
 use Rattle.opening.proofs.put_ids.Given as goal
 
 abbrev pub invariant-loop-i : goal.invariant-loop-i
-invariant-loop-i l = (l.i ≤ length l.ids) × (length l.store ≡ length l.initial.store) × (ids_in l.initial.store 0 l.ids ≡ ids_in l.store l.i (drop l.i l.ids))
-
-abbrev pub decreases-loop-i : goal.decreases-loop-i
-decreases-loop-i l = length l.ids - l.i
+invariant-loop-i l = ids_in l.initial.store 0 l.ids ≡ ids_in l.store l.i (drop l.i l.ids)
