@@ -22,9 +22,8 @@
 
 #![tactic(auto)]
 
-ghost use Rattle.std.specs.Prelude.{◌≤◌, length, IfOk};
-
-use std::io::{BufWriter, Read, Write};
+use record::Body;
+use std::io::{BufWriter, ErrorKind, Read, Write};
 use std::rt::Files;
 use std::{env, fs, io};
 
@@ -34,38 +33,43 @@ mod record;
 // The numbers of a store.
 const STORE: usize = 7168;
 
+// The most SecurityIDs that are handed to an opening. It refuses more than 16, so none beyond these can matter.
+const MOST_IDS: usize = 32;
+
 // Opens the store.
-fn open_call(out: &mut impl Write, store: &mut [u64], body: &[u8]) -> io::Result<()> {
-    let mut ids = [0u64; record::MOST_IDS];
-    let n = record::ids(body, &mut ids);
-    let answer = selkavorn::selkavorn_open(store, record::byte(body, 0), record::first(&ids, n));
+fn open_call(out: &mut impl Write, store: &mut [u64], body: Body) -> io::Result<()> {
+    let mut ids = [0u64; MOST_IDS];
+    let n = MOST_IDS.min(body.bytes.len() / 8);
+    for (i, id) in ids[..n].iter_mut().enumerate() {
+        *id = body.number(1 + 8 * i);
+    }
+    let answer = selkavorn::selkavorn_open(store, u64::from(body.byte(0)), &ids[..n]);
     lines::opened(out, answer)
 }
 
 // Feeds a message.
-fn feed_call(out: &mut impl Write, store: &mut [u64], body: &[u8]) -> io::Result<()> {
-    let answer = selkavorn::selkavorn_feed(store, body);
+fn feed_call(out: &mut impl Write, store: &mut [u64], body: Body) -> io::Result<()> {
+    let answer = selkavorn::selkavorn_feed(store, body.bytes);
     lines::fed(out, answer % 256, answer / 256)
 }
 
 // Asks for a quote.
-fn quote_call(out: &mut impl Write, store: &[u64], body: &[u8]) -> io::Result<()> {
+fn quote_call(out: &mut impl Write, store: &[u64], body: Body) -> io::Result<()> {
     let mut room = [0u64; 17];
-    let time = record::part(body, 16, body.len());
     let answer = selkavorn::selkavorn_quote(
         store,
-        record::number(body, 0),
-        time,
-        record::number(body, 8),
+        body.number(0),
+        body.rest(16),
+        body.number(8),
         &mut room,
     );
     lines::told(out, b"quote", answer, &room)
 }
 
 // Asks for a state.
-fn state_call(out: &mut impl Write, store: &[u64], body: &[u8]) -> io::Result<()> {
+fn state_call(out: &mut impl Write, store: &[u64], body: Body) -> io::Result<()> {
     let mut room = [0u64; 4];
-    let answer = selkavorn::selkavorn_state(store, record::number(body, 0), &mut room);
+    let answer = selkavorn::selkavorn_state(store, body.number(0), &mut room);
     lines::told(out, b"state", answer, &room)
 }
 
@@ -77,88 +81,63 @@ fn board_call(out: &mut impl Write, store: &[u64]) -> io::Result<()> {
 }
 
 // Has a snapshot written.
-fn write_call(out: &mut impl Write, store: &[u64], body: &[u8]) -> io::Result<()> {
+fn write_call(out: &mut impl Write, store: &[u64], body: Body) -> io::Result<()> {
     let mut room = [0u8; 4307];
-    let answer = write_into(store, body, &mut room);
+    let sender = usize::from(body.byte(10));
+    let target = usize::from(body.byte(11));
+    let answer = selkavorn::selkavorn_write(
+        store,
+        body.number(0),
+        body.part(12, sender),
+        body.part(12 + sender, target),
+        u64::from(body.byte(8)),
+        u64::from(body.byte(9)),
+        body.rest(12 + sender + target),
+        &mut room,
+    );
     lines::written(out, answer % 256, answer / 256, &room)
 }
 
-fn write_into(store: &[u64], body: &[u8], room: &mut [u8]) -> u64 {
-    let id = record::number(body, 0);
-    let k = record::byte(body, 8);
-    let m = record::byte(body, 9);
-    let sender = record::length(body, 10);
-    let target = record::length(body, 11);
-    selkavorn::selkavorn_write(
-        store,
-        id,
-        record::part(body, 12, sender),
-        record::part(body, 12 + sender, target),
-        k,
-        m,
-        record::part(body, 12 + sender + target, body.len()),
-        room,
-    )
-}
-
-// Numbers for a room.
-fn numbers() -> [u64; 256] {
-    [0u64; 256]
-}
-
 // Has a recording walked, in a room of so many numbers.
-fn walk_call(out: &mut impl Write, body: &[u8]) -> io::Result<()> {
-    let n = record::length(body, 8);
-    let mut all = numbers();
-    let room = &mut all[..n];
-    let answer = selkavorn::selkavorn_salvage(
-        record::part(body, 9, body.len()),
-        record::number(body, 0),
-        room,
-    );
+fn walk_call(out: &mut impl Write, body: Body) -> io::Result<()> {
+    let mut numbers = [0u64; 256];
+    let room = &mut numbers[..usize::from(body.byte(8))];
+    let answer = selkavorn::selkavorn_salvage(body.rest(9), body.number(0), room);
     lines::told(out, b"salvage", answer, room)
 }
 
-// Has a lot sold.
-fn sell_call(out: &mut impl Write, store: &[u64], body: &[u8]) -> io::Result<()> {
+// Has a lot sold or bought, as the word and the call say.
+fn lot_call<F: Fn(&[u64], u64, u64, &[u8], u64, &mut [u64]) -> u64>(
+    out: &mut impl Write,
+    store: &[u64],
+    word: &[u8],
+    call: F,
+    body: Body,
+) -> io::Result<()>
+    requires { F.IsAlwaysCallable call }
+{
     let mut room = [0u64; 5];
-    let time = record::part(body, 24, body.len());
-    let answer = selkavorn::selkavorn_sell(
+    let answer = call(
         store,
-        record::number(body, 0),
-        record::number(body, 16),
-        time,
-        record::number(body, 8),
+        body.number(0),
+        body.number(16),
+        body.rest(24),
+        body.number(8),
         &mut room,
     );
-    lines::told(out, b"sell", answer, &room)
-}
-
-// Has a lot bought.
-fn buy_call(out: &mut impl Write, store: &[u64], body: &[u8]) -> io::Result<()> {
-    let mut room = [0u64; 5];
-    let time = record::part(body, 24, body.len());
-    let answer = selkavorn::selkavorn_buy(
-        store,
-        record::number(body, 0),
-        record::number(body, 16),
-        time,
-        record::number(body, 8),
-        &mut room,
-    );
-    lines::told(out, b"buy", answer, &room)
+    lines::told(out, word, answer, &room)
 }
 
 // Sets a number of the store.
-fn set_number(store: &mut [u64], body: &[u8]) {
-    let at = record::length(body, 0) + 256 * record::length(body, 1);
-    if at < store.len() {
-        store[at] = record::number(body, 2);
+fn set_number(store: &mut [u64], body: Body) {
+    let at = usize::from(u16::from_le_bytes([body.byte(0), body.byte(1)]));
+    if let Some(number) = store.get_mut(at) {
+        *number = body.number(2);
     }
 }
 
 // Does what a record says, and answers whether its kind is one of the ten.
-fn call(out: &mut impl Write, store: &mut [u64], kind: u8, body: &[u8]) -> io::Result<bool> {
+fn call(out: &mut impl Write, store: &mut [u64], kind: u8, body: Body) -> io::Result<bool> {
     match kind {
         b'O' => open_call(out, store, body)?,
         b'F' => feed_call(out, store, body)?,
@@ -167,44 +146,35 @@ fn call(out: &mut impl Write, store: &mut [u64], kind: u8, body: &[u8]) -> io::R
         b'B' => board_call(out, store)?,
         b'W' => write_call(out, store, body)?,
         b'R' => walk_call(out, body)?,
-        b'L' => sell_call(out, store, body)?,
-        b'P' => buy_call(out, store, body)?,
+        b'L' => lot_call(out, store, b"sell", selkavorn::selkavorn_sell, body)?,
+        b'P' => lot_call(out, store, b"buy", selkavorn::selkavorn_buy, body)?,
         b'D' => set_number(store, body),
         _ => return Ok(false),
     }
     Ok(true)
 }
 
-// Reads until the buffer is full or the file ends: how many bytes came.
-fn read_full(file: &mut impl Read, buf: &mut [u8]) -> io::Result<usize>
-    ensures { IfOk result (λ n. n ≤ length buf.old) }
-{
-    let mut got = 0usize;
-    while got < buf.len() {
-        let n = file.read(&mut buf[got..])?;
-        if n == 0 {
-            break;
-        }
-        got += n;
+// Whether the file filled the buffer before it ended.
+fn filled(file: &mut impl Read, buf: &mut [u8]) -> io::Result<bool> {
+    match file.read_exact(buf) {
+        Ok(()) => Ok(true),
+        Err(error) if error.kind() == ErrorKind::UnexpectedEof => Ok(false),
+        Err(error) => Err(error),
     }
-    Ok(got)
 }
 
 // Reads one record and does what it says; answers whether to go on.
 fn next(out: &mut impl Write, file: &mut impl Read, store: &mut [u64]) -> io::Result<bool> {
     let mut head = [0u8; 3];
-    let got = read_full(file, &mut head)?;
-    if got < 3 {
+    if !filled(file, &mut head)? {
         return Ok(false);
     }
-    let n = record::size(&head);
     let mut body = [0u8; 65536];
-    let part = &mut body[..n];
-    let got = read_full(file, part)?;
-    if got < n {
+    let bytes = &mut body[..usize::from(record::size(&head))];
+    if !filled(file, bytes)? {
         return Ok(false);
     }
-    call(out, store, head[0], part)
+    call(out, store, head[0], Body { bytes })
 }
 
 // A proved loop has to end, and nothing says that a file does. So the loop counts its turns, to a number that no run comes to.

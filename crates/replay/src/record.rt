@@ -1,91 +1,47 @@
 // What stands in a record's bytes.
-ghost use Rattle.std.specs.Prelude.{length as ListN·length, ◌≤◌, ◌<◌};
+ghost use Rattle.std.specs.Prelude.{◌≤◌, length};
 
-// The most SecurityIDs that are handed to an opening. It refuses more than 16, so none beyond these can matter.
-pub const MOST_IDS: usize = 32;
-
-fn wide(b: u8) -> u64 {
-    b as u64
+// The bytes after a record's head. One that is missing reads as 0.
+#[derive(Clone, Copy)]
+pub(crate) struct Body<'a> {
+    pub(crate) bytes: &'a [u8],
 }
 
-fn place(b: u8) -> usize
-    ensures { result < 256 }
-{
-    b as usize
-}
-
-fn least(a: usize, b: usize) -> usize
-    ensures { (result ≤ a) × (result ≤ b) }
-{
-    if a < b {
-        return a;
+impl<'a> Body<'a> {
+    // The byte at a place.
+    pub(crate) fn byte(&self, at: usize) -> u8 {
+        self.bytes.get(at).copied().unwrap_or(0)
     }
-    b
-}
 
-// The byte at a place.
-pub(crate) fn byte(body: &[u8], at: usize) -> u64 {
-    if at < body.len() {
-        return wide(body[at]);
+    // The bytes from a place on.
+    pub(crate) fn rest(&self, from: usize) -> &'a [u8] {
+        &self.bytes[from.min(self.bytes.len())..]
     }
-    0
-}
 
-// The byte at a place, as a length.
-pub(crate) fn length(body: &[u8], at: usize) -> usize
-    ensures { result < 256 }
-{
-    if at < body.len() {
-        return place(body[at]);
+    // The bytes from a place on, n of them or as many as there are.
+    pub(crate) fn part(&self, from: usize, n: usize) -> &'a [u8]
+        ensures { length result.now ≤ n }
+    {
+        start(self.rest(from), n)
     }
-    0
+
+    // The number of the 8 bytes from a place on.
+    pub(crate) fn number(&self, at: usize) -> u64 {
+        let there = self.part(at, 8);
+        let mut bytes = [0u8; 8];
+        bytes[..there.len()].copy_from_slice(there);
+        u64::from_le_bytes(bytes)
+    }
 }
 
 // How many bytes a record has after its head.
-pub(crate) fn size(head: &[u8; 3]) -> usize
-    ensures { result < 65536 }
+pub(crate) fn size(head: &[u8; 3]) -> u16 {
+    u16::from_le_bytes([head[1], head[2]])
+}
+
+// The first n, or as many as there are.
+pub(crate) fn start(s: &[u8], n: usize) -> &[u8]
+    ensures { length result.now ≤ n }
 {
-    place(head[1]) + 256 * place(head[2])
-}
-
-// The bytes from a place on, n of them or as many as there are.
-pub(crate) fn part(body: &[u8], from: usize, n: usize) -> &[u8] {
-    let a = least(from, body.len());
-    let e = a + least(n, body.len() - a);
-    &body[a..e]
-}
-
-// The first n bytes, or as many as there are.
-pub(crate) fn start(s: &[u8], n: u64) -> &[u8] {
-    part(s, 0, n as usize)
-}
-
-// The number of the 8 bytes from a place on.
-pub(crate) fn number(body: &[u8], at: usize) -> u64
-    requires { at < 65536 }
-{
-    let mut n = 0u64;
-    let mut i = 8usize;
-    while i > 0 {
-        i -= 1;
-        n = (n << 8) | byte(body, at + i);
-    }
-    n
-}
-
-// The first n numbers, or as many as there are.
-pub(crate) fn first(s: &[u64], n: usize) -> &[u64] {
-    let e = least(n, s.len());
-    &s[0..e]
-}
-
-// The SecurityIDs of an opening, and how many.
-pub(crate) fn ids(body: &[u8], ids: &mut [u64]) -> usize {
-    let n = least(least(body.len() / 8, MOST_IDS), ids.len());
-    let mut i = 0usize;
-    while i < n {
-        ids[i] = number(body, 1 + i * 8);
-        i += 1;
-    }
-    n
+    &s[..n.min(s.len())]
 }
