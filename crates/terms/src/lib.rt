@@ -2,7 +2,8 @@
 // which queued entries are applied after it.
 #![tactic(auto)]
 
-ghost use Rattle.std.specs.Prelude.{◌≡◌, ◌≤◌};
+ghost use Rattle.std.specs.Prelude.{◌≡◌, ◌≤◌, ltb};
+ghost use Rattle.std.specs.Result.{is_err};
 ghost use Rattle.terms.specs.Terms.{due, refusal_of, refused_as};
 
 use heading::Heading;
@@ -12,7 +13,8 @@ use message::Answer;
 #[tactic(auto, unfolding(crate::specs::Terms::refusal_of))]
 pub fn refusal(h: Heading, i: usize, last: u64) -> Result<(), Answer>
     requires { h.followed ≤ 16 }
-    ensures { refused_as result ≡ refusal_of h i last }
+    ensures number { refused_as result ≡ refusal_of h i last }
+    ensures refused { is_err result ≡ ltb 0 (refusal_of h i last) }
 {
     if h.followed <= i {
         return Err(Answer::NotOurs);
