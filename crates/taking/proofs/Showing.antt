@@ -10,7 +10,6 @@ use lib.Dec.{eqb}
 use lib.ListN.{length, take, drop, set, replicate, length-set}
 use lib.Seq.{take_all, take-suc-set, length-take-le}
 use Rattle.book.specs.declared.Entry.{Entry}
-use Rattle.book.specs.declared.Book.{Book}
 use Rattle.book.specs.declared.Side.{Side}
 use Rattle.book.specs.declared.Update.{Update}
 use Rattle.book.specs.Sides.{no_entry, pad}
@@ -70,9 +69,6 @@ shows_put places n e rest total h s =
 
 side_by : {a b : List Entry} {n m : ℕ} → a ≡ b → n ≡ m → ◌≡◌ {A = Side} (record { places = a; held = n }) (record { places = b; held = m })
 side_by h g = cc
-
-pub book_by : {s t u v : Side} → s ≡ t → u ≡ v → ◌≡◌ {A = Book} (record { bids = s; offers = u }) (record { bids = t; offers = v })
-book_by h g = cc
 
 pub shows_end : (places : List Entry) (n : ℕ) (total : List Entry) → Shows places n [] total → ◌≡◌ {A = Side} (record { places = places; held = n }) (side_of total)
 shows_end places n total s =

@@ -1,16 +1,25 @@
 -- One turn of the replay: an entry that is not due is passed over, one that is due is applied, and a breach ends it.
-use mathlib.Core.Path.{◌≡◌, sym, ap, ◌∙◌}
+use mathlib.Core.Path.{◌≡◌, refl, sym, ap, ◌∙◌}
 use mathlib.Core.Bool.{true, false}
 use Prim.Native.Nat.{ℕ, ◌+◌, ◌<◌}
 use lib.ListN.{drop}
-use borrow.Author.Tests.{eq-eqb, ne_eqb}
+use lib.Dec.{eqb}
+use Rattle.std.specs.Prelude.{Ok, Err}
 use Rattle.book.specs.declared.Book.{Book}
+use Rattle.book.specs.declared.reasons.Breach.{Breach}
+use Rattle.book.specs.declared.reasons.Breach.TheVariants.{Place, Room}
+use Rattle.book.specs.Results.{reason_number, turn_from}
 use Rattle.book.specs.Sides.{Turn, book_step}
 use Rattle.cells.specs.Cells.{tab}
 use Rattle.cells.proofs.Tables.{tab_turn}
 use Rattle.board.specs.Board.{Queued}
 use Rattle.taking.specs.Replays.{next, replay_b}
 use Rattle.terms.specs.Terms.{due}
+
+-- a breach has a reason
+pub has_reason : (why : Breach) → eqb (reason_number why) 0 ≡ false
+has_reason Place = refl
+has_reason Room = refl
 
 module _ (i S : ℕ) (f : ℕ → Queued) (q k : ℕ) (b : Book) (h : k < q) where
   pub passes : due i S (f k).update.who (f k).update.what (f k).number ≡ false → replay_b i S (drop (k + 1) (tab f q)) b ≡ replay_b i S (drop k (tab f q)) b
@@ -22,9 +31,11 @@ module _ (i S : ℕ) (f : ℕ → Queued) (q k : ℕ) (b : Book) (h : k < q) whe
   unfolding replay_b
   applies e = rw (tab_turn f q k h, e)
 
-  module _ (e : due i S (f k).update.who (f k).update.what (f k).number ≡ true) (t : Turn) (w : t ≡ book_step b (f k).update) where
-    pub goes_on_lem : t.reason ≡ 0 → replay_b i S (drop (k + 1) (tab f q)) t.book ≡ replay_b i S (drop k (tab f q)) b
-    goes_on_lem z = sym (applies e ∙ ap (λ (x : Turn). next x (replay_b i S (drop (k + 1) (tab f q)))) (sym w) ∙ rw (eq-eqb t.reason 0 z))
+  -- one that is due, with what it leaves of the book
+  module _ (e : due i S (f k).update.who (f k).update.what (f k).number ≡ true) where
+    pub goes_on_lem : (c : Book) → turn_from b (Ok c) ≡ book_step b (f k).update
+        → replay_b i S (drop (k + 1) (tab f q)) c ≡ replay_b i S (drop k (tab f q)) b
+    goes_on_lem c w = sym (applies e ∙ ap (λ (x : Turn). next x (replay_b i S (drop (k + 1) (tab f q)))) (sym w))
 
-    pub stops : (t.reason ≡ 0 → ⊥) → t ≡ replay_b i S (drop k (tab f q)) b
-    stops z = sym (applies e ∙ ap (λ (x : Turn). next x (replay_b i S (drop (k + 1) (tab f q)))) (sym w) ∙ rw (ne_eqb t.reason 0 z))
+    pub stops : (why : Breach) → turn_from b (Err why) ≡ book_step b (f k).update → turn_from b (Err why) ≡ replay_b i S (drop k (tab f q)) b
+    stops why w = sym (applies e ∙ ap (λ (x : Turn). next x (replay_b i S (drop (k + 1) (tab f q)))) (sym w) ∙ rw (has_reason why))

@@ -2,10 +2,12 @@
 // book is set, queued entries for the instrument and for all with numbers above S are applied, and it is Live.
 #![tactic(auto)]
 
-ghost use Rattle.std.specs.Prelude.{◌≡◌, ◌+◌, ◌*◌, ◌≤◌, ◌<◌, length};
+ghost use Rattle.std.specs.Prelude.{◌≡◌, ◌≤◌, ◌<◌, length};
+ghost use Rattle.book.specs.Results.{turn_from};
 ghost use Rattle.book.specs.Canonical.{side_of};
 ghost use Rattle.cells.specs.Cells.{tab};
-ghost use Rattle.cells.specs.Runs.{update_size, updates_in};
+ghost use Rattle.cells.specs.Updates.{updates_of};
+ghost use Rattle.message.specs.Answers.{number_of};
 ghost use Rattle.board.specs.Snapshot.{entries_of};
 ghost use Rattle.store.specs.Layout.{store_size};
 ghost use Rattle.store.specs.Meaning.{queued_at, st};
@@ -13,43 +15,33 @@ ghost use Rattle.store.specs.Canon.{Formed};
 ghost use Rattle.store.specs.Answers.{fed};
 ghost use Rattle.taking.specs.Replays.{replay_b, live_s, take_s, take_shown_s, snap_s};
 
-use book::{Book, Side, Turn};
+use book::{Book, Breach, Side};
+use cells::run::Updates;
 use heading::Heading;
+use message::Answer;
 use store::Fed;
 
-// Taken.
-const TAKEN: u64 = 4;
-// A side over 20.
-const TOO_WIDE: u64 = 9;
-// Replay broke.
-const BROKE: u64 = 10;
-
 // The first q queued entries on a book, up to the first breach.
-fn replay(store: &[u64], q: usize, i: usize, last: u64, book: Book) -> Turn
+#[tactic(auto, using(crate::proofs::Turns::passes, crate::proofs::Turns::goes_on_lem, crate::proofs::Turns::stops, cells::proofs::Tables::tab_end), unfolding(crate::specs::Replays::replay_b, store::specs::Meaning::queued_at))]
+fn replay(store: &[u64], q: usize, i: usize, last: u64, book: Book) -> Result<Book, Breach>
     requires { (store_size ≤ length store.now) × (q ≤ 256) }
-    ensures { result ≡ replay_b i last (tab (queued_at store.now) q) book }
+    ensures { let t = replay_b i last (tab (queued_at store.now) q) book in turn_from t.book result ≡ t }
 {
     let mut b = book;
-    let mut k = 0usize;
-    while k < q {
+    for k in 0..q {
         let at = store::QUEUE + k * store::SLOT;
-        k += 1;
-        let n = store[at];
         let says = at + 1;
-        let who = store[says];
-        let what = store[says + cells::UPDATE_WHAT];
-        if !terms::is_due(i, last, who, what, n) {
-            continue;
+        if terms::is_due(
+            i,
+            last,
+            store[says],
+            store[says + cells::UPDATE_WHAT],
+            store[at],
+        ) {
+            b = book::apply(b, cells::load_update(store, says))?;
         }
-        let u = cells::load_update(store, says);
-        let t = book::apply(b, u);
-        if t.reason != 0 {
-            return t;
-        }
-        let c = t.book;
-        b = c;
     }
-    Turn { book: b, reason: 0 }
+    Ok(b)
 }
 
 // Instrument i is Live with a book.
@@ -57,96 +49,76 @@ fn put_live(store: &mut [u64], h: Heading, i: usize, b: Book) -> Heading
     requires { (store_size ≤ length store.old) × (i < 16) }
     ensures { st result store.new ≡ live_s i b (st h store.old) }
 {
-    let bids = b.bids;
-    let offers = b.offers;
-    cells::save_side(store, store::BIDS + i * store::BOOK, bids);
-    cells::save_side(store, store::OFFERS + i * store::BOOK, offers);
+    cells::save_side(store, store::BIDS + i * store::BOOK, b.bids);
+    cells::save_side(store, store::OFFERS + i * store::BOOK, b.offers);
     store[store::REASONS + i * store::RECORD] = 0;
     h.live(i)
 }
 
 // The snapshot of instrument i is taken; a replay that breaks leaves it Waiting with the reason.
+#[tactic(auto, using(crate::proofs::Turns::has_reason), unfolding(crate::specs::Replays::take_s))]
 fn take(store: &mut [u64], h: Heading, i: usize, last: u64, book: Book) -> Fed
     requires { (store_size ≤ length store.old) × (h.queued ≤ 256) × (i < 16) }
-    ensures { fed result.answer (st result.head store.new) ≡ take_s i last book (st h store.old) }
+    ensures { fed (number_of result.answer) (st result.head store.new) ≡ take_s i last book (st h store.old) }
 {
-    let t = replay(store, h.queued, i, last, book);
-    if t.reason != 0 {
-        let g = deliver::break_off(store, h, i, t.reason);
-        return Fed {
-            head: g,
-            answer: BROKE,
-        };
-    }
-    let b = t.book;
-    let g = put_live(store, h, i, b);
-    let e = queue::settle(store, g);
-    Fed {
-        head: e,
-        answer: TAKEN,
+    match replay(store, h.queued, i, last, book) {
+        Ok(b) => {
+            let g = put_live(store, h, i, b);
+            Fed {
+                head: queue::settle(store, g),
+                answer: Answer::Taken,
+            }
+        }
+        Err(why) => Fed {
+            head: deliver::break_off(store, h, i, why),
+            answer: Answer::Broke,
+        },
     }
 }
 
 // The bids or the offers of a W; a side over 20 keeps its count and its first 20.
-fn show(run: &[u64], count: usize, side: u64) -> Side
-    requires { count * update_size ≤ length run.now }
-    ensures { result ≡ side_of (entries_of side (updates_in run.now count)) }
+fn show(us: Updates, side: u64) -> Side
+    ensures { result ≡ side_of (entries_of side (updates_of us.entry)) }
 {
     let none = book::no_entry();
     let mut places = [none; 20];
-    let mut n = 0usize;
-    let mut i = 0usize;
-    while i < count {
-        let at = i * cells::UPDATE;
-        i += 1;
-        if run[at + cells::UPDATE_WHAT] != side {
-            continue;
-        }
-        if book::PLACES <= n {
+    let mut n = 0;
+    for i in 0..us.count {
+        if us.what(i) == side {
+            if n < book::PLACES {
+                places[n] = us.at(i).entry;
+            }
             n += 1;
-            continue;
         }
-        places[n] = cells::load_entry(run, at + cells::UPDATE_ENTRY);
-        n += 1;
     }
     Side { places, held: n }
 }
 
 // The snapshot of instrument i, if neither side is over 20.
-fn take_shown(store: &mut [u64], h: Heading, i: usize, last: u64, run: &[u64], count: usize) -> Fed
-    requires { (store_size ≤ length store.old) × (h.queued ≤ 256) × (i < 16) × (count * update_size ≤ length run.now) }
-    ensures { fed result.answer (st result.head store.new) ≡ take_shown_s i last (updates_in run.now count) (st h store.old) }
+fn take_shown(store: &mut [u64], h: Heading, i: usize, last: u64, us: Updates) -> Fed
+    requires { (store_size ≤ length store.old) × (h.queued ≤ 256) × (i < 16) }
+    ensures { fed (number_of result.answer) (st result.head store.new) ≡ take_shown_s i last (updates_of us.entry) (st h store.old) }
 {
-    let bids = show(run, count, book::BID);
-    let offers = show(run, count, book::OFFER);
-    if book::PLACES < bids.held {
+    let bids = show(us, book::BID);
+    let offers = show(us, book::OFFER);
+    if book::PLACES < bids.held || book::PLACES < offers.held {
         return Fed {
             head: h,
-            answer: TOO_WIDE,
+            answer: Answer::TooWide,
         };
     }
-    if book::PLACES < offers.held {
-        return Fed {
-            head: h,
-            answer: TOO_WIDE,
-        };
-    }
-    let b = Book { bids, offers };
-    take(store, h, i, last, b)
+    take(store, h, i, last, Book { bids, offers })
 }
 
-// A snapshot for the SecurityID with 369 = last, and `count` bids and offers in the run.
-pub fn snapshot(store: &mut [u64], h: Heading, id: u64, last: u64, run: &[u64], count: usize) -> Fed
-    requires { Formed (st h store.old) × (count * update_size ≤ length run.now) }
-    ensures { fed result.answer (st result.head store.new) ≡ snap_s id last (updates_in run.now count) (st h store.old) }
+// A snapshot for the SecurityID with 369 = last, and its bids and offers.
+#[tactic(auto, unfolding(crate::specs::Replays::snap_s))]
+pub fn snapshot(store: &mut [u64], h: Heading, id: u64, last: u64, us: Updates) -> Fed
+    requires { Formed (st h store.old) }
+    ensures { fed (number_of result.answer) (st result.head store.new) ≡ snap_s id last (updates_of us.entry) (st h store.old) }
 {
     let i = store::find(store, h, id);
-    let no = terms::refusal(h, i, last);
-    if no != 0 {
-        return Fed {
-            head: h,
-            answer: no,
-        };
+    match terms::refusal(h, i, last) {
+        Ok(()) => take_shown(store, h, i, last, us),
+        Err(answer) => Fed { head: h, answer },
     }
-    take_shown(store, h, i, last, run, count)
 }

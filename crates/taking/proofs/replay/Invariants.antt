@@ -3,12 +3,8 @@ use Rattle.taking.specs.Replays.{replay_b}
 use Rattle.store.specs.Meaning.{queued_at}
 use Rattle.cells.specs.Cells.{tab}
 use lib.ListN.{drop}
-use Prim.Native.Nat.{◌-◌, ◌≤◌}
 use mathlib.Core.Path.{◌≡◌}
 use Rattle.taking.proofs.replay.Given as goal
 
 abbrev pub invariant-loop-k : goal.invariant-loop-k
-invariant-loop-k l = (l.k ≤ l.q) × (replay_b l.i l.last (drop l.k (tab (queued_at l.store) l.q)) l.b ≡ replay_b l.i l.last (tab (queued_at l.store) l.q) l.initial.b)
-
-abbrev pub decreases-loop-k : goal.decreases-loop-k
-decreases-loop-k l = l.q - l.k
+invariant-loop-k l = replay_b l.i l.last (drop l.k (tab (queued_at l.store) l.q)) l.b ≡ replay_b l.i l.last (tab (queued_at l.store) l.q) l.initial.b
