@@ -25,6 +25,9 @@ const SOH: u8 = 1;
 
 const EQUALS: u8 = b'=';
 
+// No tag starts with it.
+const ZERO: u8 = b'0';
+
 // A tag is at most 99,999.
 const TAG_DIGITS: usize = 5;
 
@@ -74,7 +77,7 @@ fn tag_at(s: &[u8], at: usize) -> Option<Tag>
         let b = s[i];
         let d = digits::worth(b);
         if 9 < d {
-            if b != EQUALS || v == 0 || s[at] == b'0' {
+            if b != EQUALS || v == 0 || s[at] == ZERO {
                 return None;
             }
             return Some(Tag { tag: v, mid: i });

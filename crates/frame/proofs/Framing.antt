@@ -1,5 +1,6 @@
 -- The frame read by places is the frame by fields. Assumes nothing.
-use Rattle.std.specs.Prelude.{Option, Some, None}
+use Rattle.std.specs.Prelude.{Option, Some, None, Result, Ok, Err}
+use Rattle.std.specs.Result.{result_ok}
 use Rattle.std.proofs.Common.{◌≡◌, ℕ, ◌+◌, ◌-◌, ◌%◌, ◌<◌, ◌≤◌, Bool, true, false, cond, ◌&&◌, eqb, leb, ◌⊎◌, List, [], ◌∷◌, ◌++◌, length, get_or, take, drop, sym, refl, ap, ◌∙◌, inl, inr, arith, length-append, length-drop, take-append-drop, drop_of_length-le, length-take, take_all, drop-cons, drop-drop, eq-eqb, ne_eqb, eqb-true, leb-true}
 use Rattle.digits.specs.Digits.{digits_of, whole_of}
 use Rattle.digits.proofs.Width.{both, below}
@@ -8,9 +9,10 @@ use Rattle.chain.specs.Fields.{Field, field, fields_of}
 use Rattle.chain.specs.Bytes.{field_bytes, bytes_of, fair, all_fair}
 use Rattle.frame.specs.Frames.{equal, total, begin, reads, begins, counts, sum_of, typed, summed, last_of, front_of, chained, frame_of, ended}
 use Rattle.chain.specs.Places.{part, is_some}
-use Rattle.frame.specs.ByPlace.{preamble, trailer_of, parts_of, judged, outline_of, frame_in}
+use Rattle.frame.specs.ByPlace.{shape, preamble, trailer_of, parts_of, judged, outline_of, frame_in}
 use Rattle.frame.specs.declared.Shape.{Shape}
 use Rattle.frame.specs.declared.Framed.{Framed}
+use Rattle.frame.specs.declared.FrameError.{FrameError}
 use Rattle.chain.proofs.Shortest.{read_digits, fixed_back, decimal_back}
 use Rattle.chain.proofs.Walk.{found}
 use Rattle.chain.proofs.Inverse.{Chain, fields_only}
@@ -183,26 +185,26 @@ module _ (s : List ℕ) (a b c : Field) (fs : List Field) (v : ℕ) (e : fields_
       }
 
 -- broken, or held
-pub frame_cases : (s : List ℕ) → (frame_of s ≡ Framed.BadFrame) ⊎ Held s
+pub frame_cases : (s : List ℕ) → (frame_of s ≡ Err FrameError.BadFrame) ⊎ Held s
 unfolding frame_of
 frame_cases s = go (leb 1 (length s)) (leb (length s) 8192) (fields_of s) refl refl
   where
-    summing : (a b c : Field) (fs : List Field) (r : Option ℕ) (t : Framed) → fields_of s ≡ Some (a ∷ b ∷ c ∷ fs) → length s ≤ 8192
+    summing : (a b c : Field) (fs : List Field) (r : Option ℕ) (t : Result Framed FrameError) → fields_of s ≡ Some (a ∷ b ∷ c ∷ fs) → length s ≤ 8192
         → begins a ≡ true → counts b (c ∷ front_of fs) ≡ true → eqb c.tag 35 ≡ true → sum_of (last_of c fs) ≡ r
-        → (summed r (a ∷ b ∷ c ∷ front_of fs) t ≡ Framed.BadFrame) ⊎ Held s
+        → (summed r (a ∷ b ∷ c ∷ front_of fs) t ≡ Err FrameError.BadFrame) ⊎ Held s
     summing a b c fs None t e l f g h i = inl refl
     summing a b c fs (Some v) t e l f g h i = inr (fields_held s a b c fs v e l f g h i)
 
     testing : (a b c : Field) (fs : List Field) (x y z : Bool) → fields_of s ≡ Some (a ∷ b ∷ c ∷ fs) → length s ≤ 8192
         → begins a ≡ x → counts b (c ∷ front_of fs) ≡ y → eqb c.tag 35 ≡ z
-        → (cond (x && (y && z)) (summed (sum_of (last_of c fs)) (a ∷ b ∷ c ∷ front_of fs) (typed c.text (length (bytes_of (a ∷ b ∷ c ∷ []))))) Framed.BadFrame ≡ Framed.BadFrame) ⊎ Held s
+        → (cond (x && (y && z)) (summed (sum_of (last_of c fs)) (a ∷ b ∷ c ∷ front_of fs) (typed c.text (length (bytes_of (a ∷ b ∷ c ∷ []))))) (Err FrameError.BadFrame) ≡ Err FrameError.BadFrame) ⊎ Held s
     testing a b c fs true true true e l f g h = summing a b c fs (sum_of (last_of c fs)) (typed c.text (length (bytes_of (a ∷ b ∷ c ∷ [])))) e l f g h refl
     testing a b c fs true true false e l f g h = inl refl
     testing a b c fs true false z e l f g h = inl refl
     testing a b c fs false y z e l f g h = inl refl
 
     go : (x y : Bool) (o : Option (List Field)) → leb (length s) 8192 ≡ y → fields_of s ≡ o
-        → (cond (x && y) (chained o) Framed.BadFrame ≡ Framed.BadFrame) ⊎ Held s
+        → (cond (x && y) (chained o) (Err FrameError.BadFrame) ≡ Err FrameError.BadFrame) ⊎ Held s
     go false y o p e = inl refl
     go true false o p e = inl refl
     go true true None p e = inl refl
@@ -220,37 +222,37 @@ by_places s = go (parts_of s) refl (frame_cases s)
         frame_well s h.c h.body h.v h.well
         ∙ rw (parts_well s h.c h.body h.v h.well, chain_well s h.c h.body h.v h.well)
 
-    chained_or : {from to v : ℕ} (z : Bool) → parts_of s ≡ Shape.Is from to v → is_some (fields_of (part (to + 1) (length s - 7) s)) ≡ z
-        → frame_of s ≡ Framed.BadFrame → frame_of s ≡ frame_in s (parts_of s)
+    chained_or : {from to v : ℕ} (z : Bool) → parts_of s ≡ Some (shape from to v) → is_some (fields_of (part (to + 1) (length s - 7) s)) ≡ z
+        → frame_of s ≡ Err FrameError.BadFrame → frame_of s ≡ frame_in s (parts_of s)
     chained_or true e p q = held (shaped_held s (shaped s e) p)
     chained_or false e p q = q ∙ rw (e, p)
 
-    go : (x : Shape) → parts_of s ≡ x → (frame_of s ≡ Framed.BadFrame) ⊎ Held s → frame_of s ≡ frame_in s (parts_of s)
+    go : (x : Option Shape) → parts_of s ≡ x → (frame_of s ≡ Err FrameError.BadFrame) ⊎ Held s → frame_of s ≡ frame_in s (parts_of s)
     go x e (inr h) = held h
-    go Shape.No e (inl q) = q ∙ rw e
-    go (Shape.Is from to v) e (inl q) = chained_or (is_some (fields_of (part (to + 1) (length s - 7) s))) e refl q
+    go None e (inl q) = q ∙ rw e
+    go (Some x) e (inl q) = chained_or (is_some (fields_of (part (x.to + 1) (length s - 7) s))) e refl q
 
 module _ (s : List ℕ) where
-  pub no_frame : parts_of s ≡ Shape.No → frame_of s ≡ Framed.BadFrame
+  pub no_frame : parts_of s ≡ None → frame_of s ≡ Err FrameError.BadFrame
   no_frame e = by_places s ∙ rw e
 
-  module _ {from to v : ℕ} (e : parts_of s ≡ Shape.Is from to v) where
-    pub no_chain : is_some (fields_of (part (to + 1) (length s - 7) s)) ≡ false → frame_of s ≡ Framed.BadFrame
+  module _ {from to v : ℕ} (e : parts_of s ≡ Some (shape from to v)) where
+    pub no_chain : is_some (fields_of (part (to + 1) (length s - 7) s)) ≡ false → frame_of s ≡ Err FrameError.BadFrame
     no_chain p = by_places s ∙ rw (e, p)
 
     pub a_chain : is_some (fields_of (part (to + 1) (length s - 7) s)) ≡ true → frame_of s ≡ judged s from to v
     a_chain p = by_places s ∙ rw (e, p)
 
-  pub no_outline : parts_of s ≡ Shape.No → outline_of s ≡ Framed.BadFrame
+  pub no_outline : parts_of s ≡ None → outline_of s ≡ Err FrameError.BadFrame
   unfolding outline_of
   no_outline e = rw e
 
-  pub an_outline : {from to v : ℕ} → parts_of s ≡ Shape.Is from to v → outline_of s ≡ judged s from to v
+  pub an_outline : {from to v : ℕ} → parts_of s ≡ Some (shape from to v) → outline_of s ≡ judged s from to v
   unfolding outline_of
   an_outline e = rw e
 
   module _ (from to v u : ℕ) (sum : u ≡ total (take (length s - 7) s) % 256) where
-    pub other_sum : (u ≡ v → ⊥) → judged s from to v ≡ Framed.BadSum
+    pub other_sum : (u ≡ v → ⊥) → judged s from to v ≡ Err FrameError.BadSum
     other_sum h = rw (← sum, ne_eqb v u (λ q. h (sym q)))
 
     pub right_sum : u ≡ v → judged s from to v ≡ typed (part from to s) (to + 1)
@@ -263,8 +265,12 @@ pub record Placed (s : List ℕ) (from to : ℕ) : Type 0 where
   pub long : 7 ≤ length s
   pub order : to + 1 ≤ length s - 7
 
-pub type_placed : (s : List ℕ) {from to v : ℕ} → parts_of s ≡ Shape.Is from to v → Placed s from to
+pub type_placed : (s : List ℕ) {from to v : ℕ} → parts_of s ≡ Some (shape from to v) → Placed s from to
 type_placed s e =
     let x = shaped s e in
     let i = opened_inside s x.head in
     record { some = i.some; high = i.high; long = omega (arith, x.counts); order = x.order }
+
+-- the same where the shape was read, or its want turned into a refusal
+pub shape_placed : (s : List ℕ) (o : Option Shape) (r : Result Shape FrameError) (x : Shape) → o ≡ parts_of s → o ≡ result_ok r → r ≡ Ok x → Placed s x.from x.to
+shape_placed s o r x p q e = type_placed s (sym p ∙ q ∙ ap result_ok e)

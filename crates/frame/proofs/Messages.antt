@@ -1,17 +1,18 @@
 -- The messages that frame are exactly those that the frame's writer writes. Assumes nothing.
-use Rattle.std.specs.Prelude.{Some}
+use Rattle.std.specs.Prelude.{Option, Some, None, Result, Ok, Err}
 use Rattle.std.proofs.Common.{◌≡◌, ℕ, ◌+◌, ◌-◌, ◌%◌, ◌≤◌, Bool, true, false, cond, not, ◌&&◌, eqb, ◌⊎◌, List, [], ◌∷◌, length, take, sym, refl, ap, ◌∙◌, inl, inr, arith, eq-eqb, eqb-true}
 use mathlib.Core.Bool.{false≢true}
 use Rattle.digits.proofs.Width.{both}
 use Rattle.text.specs.Text.{decimal}
 use Rattle.chain.specs.Fields.{Field, field, fields_of}
 use Rattle.chain.specs.Bytes.{bytes_of, fair, all_fair}
-use Rattle.frame.specs.Frames.{total, is_type, typed, frame_of, body_of, headed, ended, framed}
+use Rattle.frame.specs.Frames.{of_type, total, is_type, typed, frame_of, body_of, headed, ended, framed}
 use Rattle.chain.specs.Places.{part, is_some}
 use Rattle.frame.specs.ByPlace.{parts_of, judged, outline_in, outline_of, frame_in}
 use Rattle.frame.specs.Laws.{Outline, ChainedIsFrame, FrameIsOutlined}
 use Rattle.frame.specs.declared.Shape.{Shape}
 use Rattle.frame.specs.declared.Framed.{Framed}
+use Rattle.frame.specs.declared.FrameError.{FrameError}
 use Rattle.frame.proofs.Well.{Well, type_at, summed_at, chain_well, body_well, fields_well, frame_well, whole_length, inner_length}
 use Rattle.frame.proofs.Framing.{Held, frame_cases, by_places, a_chain, type_placed}
 
@@ -26,27 +27,30 @@ pub record Framing (s : List ℕ) (kind from : ℕ) : Type 0 where
   pub fields : fields_of s ≡ Some (framed (field 35 (kind ∷ []) ∷ body_of s))
   pub same : s ≡ bytes_of (framed (field 35 (kind ∷ []) ∷ body_of s))
 
-never : (s : List ℕ) {kind from : ℕ} → frame_of s ≡ Framed.Is kind from → frame_of s ≡ Framed.BadFrame → ⊥
+never : (s : List ℕ) {kind from : ℕ} → frame_of s ≡ Ok (of_type kind from) → frame_of s ≡ Err FrameError.BadFrame → ⊥
 never s p q = let z : ◌≡◌ {A = ℕ} 0 1 = cc in omega arith
 
-typed_is : (c : List ℕ) (n : ℕ) {kind from : ℕ} → typed c n ≡ Framed.Is kind from → (c ≡ kind ∷ []) × (is_type kind ≡ true) × (n ≡ from)
+typed_is : (c : List ℕ) (n : ℕ) {kind from : ℕ} → typed c n ≡ Ok (of_type kind from) → (c ≡ kind ∷ []) × (is_type kind ≡ true) × (n ≡ from)
 typed_is [] n e = let z : ◌≡◌ {A = ℕ} 0 1 = cc in absurd (omega arith)
 typed_is (k ∷ []) n {kind} {from} e = go (is_type k) refl e
   where
-    go : (t : Bool) → is_type k ≡ t → cond t (Framed.Is k n) Framed.BadType ≡ Framed.Is kind from
+    go : (t : Bool) → is_type k ≡ t → cond t (Ok (of_type k n)) (Err FrameError.BadType) ≡ Ok (of_type kind from)
         → (k ∷ [] ≡ kind ∷ []) × (is_type kind ≡ true) × (n ≡ from)
-    go true p h = let q : k ≡ kind = cc in (ap (λ (u : ℕ). u ∷ []) q, ap is_type (sym q) ∙ p, cc)
+    go true p h =
+        let z : of_type k n ≡ of_type kind from = cc in
+        let q : k ≡ kind = ap (λ (x : Framed). x.kind) z in
+        (ap (λ (u : ℕ). u ∷ []) q, ap is_type (sym q) ∙ p, ap (λ (x : Framed). x.from) z)
     go false p h = let z : ◌≡◌ {A = ℕ} 0 1 = cc in absurd (omega arith)
 typed_is (k ∷ l ∷ c) n e = let z : ◌≡◌ {A = ℕ} 0 1 = cc in absurd (omega arith)
 
-judged_is : (v u : ℕ) (t : Framed) {kind from : ℕ} → cond (eqb v u) t Framed.BadSum ≡ Framed.Is kind from → (v ≡ u) × (t ≡ Framed.Is kind from)
+judged_is : (v u : ℕ) (t : Result Framed FrameError) {kind from : ℕ} → cond (eqb v u) t (Err FrameError.BadSum) ≡ Ok (of_type kind from) → (v ≡ u) × (t ≡ Ok (of_type kind from))
 judged_is v u t {kind} {from} e = go (eqb v u) refl e
   where
-    go : (b : Bool) → eqb v u ≡ b → cond b t Framed.BadSum ≡ Framed.Is kind from → (v ≡ u) × (t ≡ Framed.Is kind from)
+    go : (b : Bool) → eqb v u ≡ b → cond b t (Err FrameError.BadSum) ≡ Ok (of_type kind from) → (v ≡ u) × (t ≡ Ok (of_type kind from))
     go true p h = (eqb-true v u p, h)
     go false p h = let z : ◌≡◌ {A = ℕ} 0 1 = cc in absurd (omega arith)
 
-module _ (s : List ℕ) {kind from : ℕ} (e : frame_of s ≡ Framed.Is kind from) (c : List ℕ) (body : List Field) (v : ℕ) (w : Well s c body v) where
+module _ (s : List ℕ) {kind from : ℕ} (e : frame_of s ≡ Ok (of_type kind from)) (c : List ℕ) (body : List Field) (v : ℕ) (w : Well s c body v) where
   abbrev d : ℕ
   d = length (decimal (length (bytes_of (field 35 c ∷ body))))
 
@@ -76,10 +80,10 @@ module _ (s : List ℕ) {kind from : ℕ} (e : frame_of s ≡ Framed.Is kind fro
         same = w.same ∙ ap bytes_of (sym framed_is);
       }
 
-pub framing : (s : List ℕ) {kind from : ℕ} → frame_of s ≡ Framed.Is kind from → Framing s kind from
+pub framing : (s : List ℕ) {kind from : ℕ} → frame_of s ≡ Ok (of_type kind from) → Framing s kind from
 framing s {kind} {from} e = go (frame_cases s)
   where
-    go : (frame_of s ≡ Framed.BadFrame) ⊎ Held s → Framing s kind from
+    go : (frame_of s ≡ Err FrameError.BadFrame) ⊎ Held s → Framing s kind from
     go (inl q) = absurd (never s e q)
     go (inr h) = framing_of s e h.c h.body h.v h.well
 
@@ -88,11 +92,11 @@ pub outline : ChainedIsFrame
 unfolding outline_of
 outline s kind from e = go (parts_of s) refl e
   where
-    go : (x : Shape) → parts_of s ≡ x → outline_in s x ≡ Framed.Is kind from → Outline s kind from
-    go Shape.No p h = let z : ◌≡◌ {A = ℕ} 0 1 = cc in absurd (omega arith)
-    go (Shape.Is a b v) p h =
-        let j = judged_is v (total (take (length s - 7) s) % 256) (typed (part a b s) (b + 1)) h in
-        let t = typed_is (part a b s) (b + 1) j.1 in
+    go : (x : Option Shape) → parts_of s ≡ x → outline_in s x ≡ Ok (of_type kind from) → Outline s kind from
+    go None p h = let z : ◌≡◌ {A = ℕ} 0 1 = cc in absurd (omega arith)
+    go (Some y) p h =
+        let j = judged_is y.sum (total (take (length s - 7) s) % 256) (typed (part y.from y.to s) (y.to + 1)) h in
+        let t = typed_is (part y.from y.to s) (y.to + 1) j.1 in
         let x = type_placed s p in
         record { type = t.1; long = x.long; inside = omega (arith, t.2, x.order); frame = λ c. a_chain s p (rw (← t.2) at c) ∙ h }
 
@@ -101,13 +105,13 @@ pub outlined : FrameIsOutlined
 unfolding outline_of
 outlined s kind from e = go (parts_of s) (sym (by_places s) ∙ e)
   where
-    chain : (z : Bool) (r : Framed) → cond z r Framed.BadFrame ≡ Framed.Is kind from → r ≡ Framed.Is kind from
+    chain : (z : Bool) (r : Result Framed FrameError) → cond z r (Err FrameError.BadFrame) ≡ Ok (of_type kind from) → r ≡ Ok (of_type kind from)
     chain true r h = h
     chain false r h = let z : ◌≡◌ {A = ℕ} 0 1 = cc in absurd (omega arith)
 
-    go : (x : Shape) → frame_in s x ≡ Framed.Is kind from → outline_in s x ≡ Framed.Is kind from
-    go Shape.No h = h
-    go (Shape.Is a b v) h = chain (is_some (fields_of (part (b + 1) (length s - 7) s))) (judged s a b v) h
+    go : (x : Option Shape) → frame_in s x ≡ Ok (of_type kind from) → outline_in s x ≡ Ok (of_type kind from)
+    go None h = h
+    go (Some y) h = chain (is_some (fields_of (part (y.to + 1) (length s - 7) s))) (judged s y.from y.to y.sum) h
 
 -- ---- the writer's side
 type_fair : (k : ℕ) → is_type k ≡ true → fair (field 35 (k ∷ [])) ≡ true
@@ -121,7 +125,7 @@ type_fair k h = go (eqb k 1) refl
 -- fields written in a frame: the message frames, and holds them
 pub record Back (k : ℕ) (fs : List Field) (s : List ℕ) : Type 0 where
   pub from : ℕ
-  pub frame : frame_of s ≡ Framed.Is k from
+  pub frame : frame_of s ≡ Ok (of_type k from)
   pub body : body_of s ≡ fs
 
 pub frame_back : (k : ℕ) (fs : List Field) → is_type k ≡ true → all_fair fs ≡ true → length (bytes_of (framed (field 35 (k ∷ []) ∷ fs))) ≤ 8192

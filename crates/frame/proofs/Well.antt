@@ -10,9 +10,7 @@ use Rattle.chain.specs.Fields.{Field, field, fields_of}
 use Rattle.chain.specs.Bytes.{field_bytes, bytes_of, fair, all_fair}
 use Rattle.frame.specs.Frames.{begin, last_of, front_of, frame_of, body_of, headed, ended}
 use Rattle.chain.specs.Places.{part}
-use Rattle.frame.specs.ByPlace.{preamble, head_of, trailer_of, parts_of, judged}
-use Rattle.frame.specs.declared.Opening.{Opening}
-use Rattle.frame.specs.declared.Shape.{Shape}
+use Rattle.frame.specs.ByPlace.{opening, shape, preamble, head_of, trailer_of, parts_of, judged}
 use Rattle.chain.proofs.Ahead.{digits_free}
 use Rattle.chain.proofs.Inverse.{is_fair, fields_back, Stands, stands, length_field}
 
@@ -151,7 +149,7 @@ module _ (s c : List ℕ) (body : List Field) (v : ℕ) (x : Well s c body v) wh
   pub count_back : whole_of 5 (decimal n) ≡ Some n
   count_back = whole_back 5 n (omega arith) (omega arith) (omega (arith, whole_length, x.short))
 
-  head_well : head_of s ≡ Opening.Is n at from to
+  head_well : head_of s ≡ Some (opening n at from to)
   unfolding head_of
   head_well =
       let q : 12 + d + 1 ≡ at = omega arith in
@@ -180,7 +178,7 @@ module _ (s c : List ℕ) (body : List Field) (v : ℕ) (x : Well s c body v) wh
       let e : drop (length s - 7) s ≡ field_bytes ten = ap (drop (length s - 7)) front ∙ drop_at (bytes_of (headed between)) (field_bytes ten) (length s - 7) front_length in
       rw e (take_all (length s - (length s - 7)) (field_bytes ten) (omega (arith, length_ten v, whole_length)))
 
-  pub parts_well : parts_of s ≡ Shape.Is from to v
+  pub parts_well : parts_of s ≡ Some (shape from to v)
   unfolding parts_of
   parts_well =
       rw (

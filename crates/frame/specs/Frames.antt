@@ -1,11 +1,16 @@
 -- The frame of a message and its type (document 01, "Frame"; answers 11, 12 and 13). Assumes nothing.
-use Rattle.std.specs.Prelude.{Option, Some, None}
+use Rattle.std.specs.Prelude.{Option, Some, None, Result, Ok, Err}
 use Rattle.std.specs.Prelude.{ℕ, ◌+◌, ◌%◌, Bool, true, false, cond, ◌&&◌, ◌||◌, List, [], ◌∷◌, ◌++◌, length, ◌==◌, nat_le}
 use Rattle.digits.specs.Digits.{digits_of, whole_of}
 use Rattle.text.specs.Text.{fixed, decimal}
 use Rattle.chain.specs.Fields.{Field, field, fields_of}
 use Rattle.chain.specs.Bytes.{bytes_of}
 use Rattle.frame.specs.declared.Framed.{Framed}
+use Rattle.frame.specs.declared.FrameError.{FrameError}
+
+-- a frame of this type; the fields after 35 start at from
+abbrev pub of_type : ℕ → ℕ → Framed
+of_type kind from = record { kind = kind; from = from }
 
 -- the same bytes
 abbrev pub equal : List ℕ → List ℕ → Bool
@@ -46,15 +51,15 @@ abbrev pub is_type : ℕ → Bool
 is_type k = (k == 88 || (k == 87 || k == 48)) || (k == 102 || (k == 121 || k == 66))
 
 -- the type is the value of 35; the fields after it start at from
-abbrev pub typed : List ℕ → ℕ → Framed
-typed [] from = Framed.BadType
-typed (k ∷ []) from = cond (is_type k) (Framed.Is k from) Framed.BadType
-typed (k ∷ l ∷ ks) from = Framed.BadType
+abbrev pub typed : List ℕ → ℕ → Result Framed FrameError
+typed [] from = Err FrameError.BadType
+typed (k ∷ []) from = cond (is_type k) (Ok (of_type k from)) (Err FrameError.BadType)
+typed (k ∷ l ∷ ks) from = Err FrameError.BadType
 
 -- three digits: the sum of all bytes before it, wrapped at 256; another sum is 12, and no three digits are 11
-abbrev pub summed : Option ℕ → List Field → Framed → Framed
-summed None fs r = Framed.BadFrame
-summed (Some v) fs r = cond (v == total (bytes_of fs) % 256) r Framed.BadSum
+abbrev pub summed : Option ℕ → List Field → Result Framed FrameError → Result Framed FrameError
+summed None fs r = Err FrameError.BadFrame
+summed (Some v) fs r = cond (v == total (bytes_of fs) % 256) r (Err FrameError.BadSum)
 
 -- the last of c and the fields after it
 abbrev pub last_of : Field → List Field → Field
@@ -68,23 +73,23 @@ front_of (f ∷ []) = []
 front_of (f ∷ g ∷ fs) = f ∷ front_of (g ∷ fs)
 
 -- 8=FIX.4.4, 9, 35, others, last 10
-abbrev pub ordered : Field → Field → Field → List Field → Field → Framed
+abbrev pub ordered : Field → Field → Field → List Field → Field → Result Framed FrameError
 ordered a b c fs z =
     cond (begins a && (counts b (c ∷ fs) && c.tag == 35))
     (summed (sum_of z) (a ∷ b ∷ c ∷ fs) (typed c.text (length (bytes_of (a ∷ b ∷ c ∷ [])))))
-    Framed.BadFrame
+    (Err FrameError.BadFrame)
 
 -- 8, 9 and 35 come first; the last is 10
-abbrev pub chained : Option (List Field) → Framed
-chained None = Framed.BadFrame
-chained (Some []) = Framed.BadFrame
-chained (Some (a ∷ [])) = Framed.BadFrame
-chained (Some (a ∷ b ∷ [])) = Framed.BadFrame
+abbrev pub chained : Option (List Field) → Result Framed FrameError
+chained None = Err FrameError.BadFrame
+chained (Some []) = Err FrameError.BadFrame
+chained (Some (a ∷ [])) = Err FrameError.BadFrame
+chained (Some (a ∷ b ∷ [])) = Err FrameError.BadFrame
 chained (Some (a ∷ b ∷ c ∷ fs)) = ordered a b c (front_of fs) (last_of c fs)
 
 -- a message has 1 to 8,192 bytes and is a chain of fields
-unfoldable pub frame_of : List ℕ → Framed
-frame_of s = cond (nat_le 1 (length s) && nat_le (length s) 8192) (chained (fields_of s)) Framed.BadFrame
+unfoldable pub frame_of : List ℕ → Result Framed FrameError
+frame_of s = cond (nat_le 1 (length s) && nat_le (length s) 8192) (chained (fields_of s)) (Err FrameError.BadFrame)
 
 -- ---- what a frame holds
 -- the fields after the first three, but the last

@@ -1,4 +1,5 @@
 -- The room filled piece by piece. Assumes nothing.
+use Rattle.std.specs.Prelude.{Option, Some, None}
 use mathlib.Core.Path.{◌≡◌, refl, sym, ap, ◌∙◌}
 use mathlib.Core.List.{List, [], ◌∷◌}
 use mathlib.Core.Bool.{false}
@@ -8,30 +9,37 @@ use native.Mathlib.Nat.{add-zero}
 use borrow.Author.Tests.{le-leb, lt-leb, le-ltb}
 use lib.ListN.{length, set, drop}
 use lib.Seq.{sets, length-sets, set_comm}
-use Rattle.stretch.specs.Stretches.{stretch_at}
+use Rattle.stretch.specs.Stretches.{some_length, stretch_at}
 use Rattle.stretch.specs.Runs.{run_of, Ends}
+use Rattle.stretch.proofs.Stretching.{length_none, length_some}
 use Rattle.salvage.specs.Pieces.{Piece, message, passed, pieces}
 use Rattle.salvage.specs.Rooms.{fitting, spanned, given, go_on, cells, refused, walk_out, First, Filled}
 use Rattle.salvage.proofs.Stepping.{pieces_end, pieces_message, pieces_run}
 use Rattle.salvage.proofs.Walking.{run_here, run_inside, message_inside}
 
 -- ---- the first piece
-module _ (rec : List ℕ) (p m next : ℕ) (l : p < length rec) (g : m ≡ stretch_at rec p) where
-  pub first_message : (m ≡ 0 → ⊥) → next ≡ stretch_at rec (p + m) → First rec p 1 m next
-  first_message h e =
-      record {
-        piece = message p m;
-        comes = pieces_message rec p m (sym g) (omega arith);
-        cell = refl;
-        size = refl;
-        some = omega arith;
-        inside = omega (arith, message_inside rec p (omega arith));
-        after = e;
-      }
+module _ (rec : List ℕ) (p : ℕ) (l : p < length rec) where
+  module _ {m : ℕ} (g : Some m ≡ some_length (stretch_at rec p)) where
+    -- its message lies in the recording
+    pub first_inside : p + m ≤ length rec
+    first_inside = let h = length_some (stretch_at rec p) g in omega (arith, h.0, h.1, message_inside rec p (omega arith))
 
-  pub first_run : (e : ℕ) → m ≡ 0 → Ends rec p e next → First rec p 0 (e - p) next
-  first_run e h x =
-      let z : stretch_at rec p ≡ 0 = sym g ∙ h in
+    pub first_message : (next : Option ℕ) → next ≡ some_length (stretch_at rec (p + m)) → First rec p 1 m next
+    first_message next e =
+        let h = length_some (stretch_at rec p) g in
+        record {
+          piece = message p m;
+          comes = pieces_message rec p m h.0 (omega (arith, h.0, h.1));
+          cell = refl;
+          size = refl;
+          some = omega (arith, h.0, h.1);
+          inside = first_inside;
+          after = e;
+        }
+
+  pub first_run : (next : Option ℕ) (e : ℕ) → None ≡ some_length (stretch_at rec p) → Ends rec p e next → First rec p 0 (e - p) next
+  first_run next e g x =
+      let z : stretch_at rec p ≡ 0 = length_none (stretch_at rec p) g in
       let n : run_of (drop p rec) ≡ e - p = omega (arith, x.here) in
       let q : p + (e - p) ≡ e = omega (arith, x.here) in
       record {
@@ -87,7 +95,7 @@ module _ (rec : List ℕ) (from : ℕ) (was : List ℕ) where
     pub going_end : length rec ≤ i → Filled rec from was is i k
     going_end h = none_left (rw (pieces_end rec i h) (fitting_none (length was - at)))
 
-    pub going_on : (kind n next : ℕ) (then : List ℕ) → 3 ≤ length was - at → First rec i kind n next → then ≡ sets is at (kind ∷ i ∷ n ∷ [])
+    pub going_on : (kind n : ℕ) (next : Option ℕ) (then : List ℕ) → 3 ≤ length was - at → First rec i kind n next → then ≡ sets is at (kind ∷ i ∷ n ∷ [])
         → Going rec from was then (i + n) (at + 3) (k + 1)
     going_on kind n next then h f e =
         let w : length was - at - 3 ≡ length was - (at + 3) = omega arith in

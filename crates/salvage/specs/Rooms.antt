@@ -1,7 +1,8 @@
 -- A walk in lent room (document 02, K12). Assumes nothing.
-use Rattle.std.specs.Prelude.{ℕ, ◌+◌, ◌-◌, ◌*◌, ◌≤◌, ◌≡◌, List, [], ◌∷◌, ◌++◌, Bool, true, cond, ◌&&◌, ◌||◌, leb, ltb, eqb, length, get_or, take, drop}
+use Rattle.std.specs.Prelude.{Option, ℕ, ◌+◌, ◌-◌, ◌*◌, ◌≤◌, ◌≡◌, List, [], ◌∷◌, ◌++◌, Bool, true, cond, ◌&&◌, ◌||◌, leb, ltb, eqb, length, get_or, take, drop}
 use Rattle.std.proofs.lemmas.List.Edits.{sets}
-use Rattle.stretch.specs.Stretches.{stretch_at}
+use Rattle.stretch.specs.Stretches.{some_length, stretch_at}
+use Rattle.salvage.specs.declared.Kind.{Kind}
 use Rattle.salvage.specs.Pieces.{Piece, message, passed, length_of, pieces}
 
 -- as many pieces as fit in the room, three numbers each
@@ -100,15 +101,20 @@ calls rec from [] = []
 calls rec from (room ∷ rooms) = join (said_in (walk_out rec from room)) (calls rec (get_or (walk_out rec from room) 0 0) rooms)
 
 -- ---- as the code goes
--- the first piece from a place on, as numbers, and the length of the message that is taken behind it, or 0
-pub record First (rec : List ℕ) (p kind n next : ℕ) : Type 0 where
+-- what stands for a piece's kind
+abbrev pub number_of : Kind → ℕ
+number_of Kind.Message = 1
+number_of Kind.Passed = 0
+
+-- the first piece from a place on, as numbers, and the length of the message that is taken behind it, if one is
+pub record First (rec : List ℕ) (p kind n : ℕ) (next : Option ℕ) : Type 0 where
   pub piece : Piece
   pub comes : pieces rec p ≡ piece ∷ pieces rec (p + n)
   pub cell : cell_of piece ≡ kind ∷ p ∷ n ∷ []
   pub size : length_of piece ≡ n
   pub some : 1 ≤ n
   pub inside : p + n ≤ length rec
-  pub after : next ≡ stretch_at rec (p + n)
+  pub after : next ≡ some_length (stretch_at rec (p + n))
 
 -- the pieces stand in the room from its third number on
 pub record Filled (rec : List ℕ) (from : ℕ) (was is : List ℕ) (next count : ℕ) : Type 0 where

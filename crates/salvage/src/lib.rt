@@ -4,8 +4,10 @@
 
 ghost use Rattle.std.specs.Prelude.{◌≡◌, ◌+◌, ◌≤◌, ◌<◌, ◌∷◌, [], length};
 ghost use Rattle.std.proofs.lemmas.List.Edits.{sets};
-ghost use Rattle.stretch.specs.Stretches.{stretch_at};
-ghost use Rattle.salvage.specs.Rooms.{least_room, First, Filled, Salvaged};
+ghost use Rattle.stretch.specs.Stretches.{some_length, stretch_at};
+ghost use Rattle.salvage.specs.Rooms.{least_room, number_of, First, Filled, Salvaged};
+
+use stretch::Gap;
 
 const DONE: u64 = 0;
 // 18: there is no such place, or too little room.
@@ -17,17 +19,32 @@ const PIECE: usize = 3;
 
 const LEAST_ROOM: usize = HEADING + PIECE;
 
-const MESSAGE: u64 = 1;
+// What a piece is: a message, or bytes that were passed over.
+#[derive(Clone, Copy, PartialEq, Eq)]
+enum Kind {
+    Message,
+    Passed,
+}
 
-const PASSED: u64 = 0;
+impl From<Kind> for u64 {
+    ghost from_gives = { λ kind n. n ≡ number_of kind };
 
-// A piece of a recording, how many bytes it has, and the length of the message that is taken behind it, or 0: so no message is
-// looked at twice.
+    // What stands for it in the room.
+    fn from(kind: Kind) -> u64 {
+        match kind {
+            Kind::Message => 1,
+            Kind::Passed => 0,
+        }
+    }
+}
+
+// A piece of a recording, how many bytes it has, and the length of the message that is taken behind it, if one is: so no message
+// is looked at twice.
 #[derive(Clone, Copy)]
 struct Part {
-    kind: u64,
+    kind: Kind,
     bytes: usize,
-    next: usize,
+    next: Option<usize>,
 }
 
 // Where a walk stopped, and after how many pieces.
@@ -37,34 +54,33 @@ struct Stop {
     count: usize,
 }
 
-// The piece that starts at a place, where a message of m bytes is taken, or none if m is 0.
-fn first(rec: &[u8], at: usize, m: usize) -> Part
-    requires { (at < length rec.now) × (m ≡ stretch_at rec.now at) }
-    ensures { First rec.now at result.kind result.bytes result.next }
+// The piece that starts at a place, where a message of so many bytes is taken, or none.
+fn first(rec: &[u8], at: usize, message: Option<usize>) -> Part
+    requires { (at < length rec.now) × (message ≡ some_length (stretch_at rec.now at)) }
+    ensures { First rec.now at (number_of result.kind) result.bytes result.next }
 {
-    if m != 0 {
-        let next = stretch::message_at(rec, at + m);
+    if let Some(bytes) = message {
+        let next = stretch::message_at(rec, at + bytes);
         return Part {
-            kind: MESSAGE,
-            bytes: m,
+            kind: Kind::Message,
+            bytes,
             next,
         };
     }
-    let g = stretch::run(rec, at);
-    let e = g.end;
+    let Gap { end, next } = stretch::run(rec, at);
     Part {
-        kind: PASSED,
-        bytes: e - at,
-        next: g.next,
+        kind: Kind::Passed,
+        bytes: end - at,
+        next,
     }
 }
 
 // A piece as three numbers.
-fn put(out: &mut [u64], at: usize, kind: u64, start: usize, bytes: usize)
+fn put(out: &mut [u64], at: usize, kind: Kind, start: usize, bytes: usize)
     requires { at + 3 ≤ length out.old }
-    ensures { out.new ≡ sets out.old at (kind ∷ start ∷ bytes ∷ []) }
+    ensures { out.new ≡ sets out.old at (number_of kind ∷ start ∷ bytes ∷ []) }
 {
-    out[at] = kind;
+    out[at] = u64::from(kind);
     out[at + 1] = start as u64;
     out[at + 2] = bytes as u64;
 }
@@ -84,19 +100,19 @@ fn fill(rec: &[u8], from: usize, out: &mut [u64]) -> Stop
         if room - at < PIECE {
             return Stop { at: i, count: k };
         }
-        let x = first(rec, i, m);
-        let b = x.bytes;
-        put(out, at, x.kind, i, b);
-        i += b;
+        let Part { kind, bytes, next } = first(rec, i, m);
+        put(out, at, kind, i, bytes);
+        i += bytes;
         at += PIECE;
         k += 1;
-        m = x.next;
+        m = next;
     }
     Stop { at: i, count: k }
 }
 
 // Walks a recording from a place on. The room gets the byte to go on at (the recording's length when the walk is whole), how many
 // pieces follow, and three numbers for each: 1 for a message or 0 for a passed run, its start, its length.
+// Kept: it answers a number, since `selkavorn_salvage` hands it to C as it is.
 pub fn walk(rec: &[u8], from: u64, out: &mut [u64]) -> u64
     ensures { Salvaged rec.now from out.old result out.new }
 {

@@ -1,4 +1,5 @@
 -- A run of passed bytes, a byte at a time and whole. Assumes nothing.
+use Rattle.std.specs.Prelude.{Some, None}
 use mathlib.Core.Path.{◌≡◌, refl, sym, ap, ◌∙◌}
 use mathlib.Core.List.{List, [], ◌∷◌}
 use mathlib.Core.Bool.{Bool, true, false, cond}
@@ -10,9 +11,9 @@ use borrow.Author.Tests.{eqb-true, eqb-false, ne_eqb}
 use lib.Dec.{eqb}
 use lib.ListN.{length, take, drop, length-drop, drop_of_length-le}
 use lib.Seq.{drop-cons, take_all}
-use Rattle.stretch.specs.Stretches.{stretch_of, stretch_at}
+use Rattle.stretch.specs.Stretches.{some_length, stretch_of, stretch_at}
 use Rattle.stretch.specs.Runs.{run_of, Ends}
-use Rattle.stretch.proofs.Stretching.{too_short}
+use Rattle.stretch.proofs.Stretching.{length_none, length_some, no_length, too_short}
 
 -- from a place to the end
 pub rest_is : (s : List ℕ) (p : ℕ) → take (length s - p) (drop p s) ≡ drop p s
@@ -41,15 +42,14 @@ module _ (rec : List ℕ) (p : ℕ) where
 
 -- ---- a turn of the code's loop
 module _ (rec : List ℕ) (at i : ℕ) (h : at + run_of (drop at rec) ≡ i + run_of (drop i rec)) where
-  pub run_done : length rec ≤ i → Ends rec at i 0
-  run_done l = record { here = omega (arith, run_end rec i l); after = sym (too_short (drop i rec) (rw length-drop (omega arith))) }
+  pub run_done : length rec ≤ i → i ≤ length rec → Ends rec at (length rec) None
+  run_done l k = record { here = omega (arith, run_end rec i l); after = no_length (stretch_at rec (length rec)) (too_short (drop (length rec) rec) (rw length-drop (omega arith))) }
 
-  module _ (m : ℕ) (e : m ≡ stretch_at rec i) where
-    pub run_found : (m ≡ 0 → ⊥) → Ends rec at i m
-    run_found l = record { here = omega (arith, run_stop rec i (omega arith)); after = e }
+  pub run_found : {m : ℕ} → Some m ≡ some_length (stretch_at rec i) → Ends rec at i (Some m)
+  run_found e = record { here = omega (arith, run_stop rec i (length_some (stretch_at rec i) e).1); after = e }
 
-    pub run_goes : i < length rec → m ≡ 0 → at + run_of (drop at rec) ≡ i + 1 + run_of (drop (i + 1) rec)
-    run_goes l z = omega (arith, run_more rec i l (sym e ∙ z))
+  pub run_goes : i < length rec → None ≡ some_length (stretch_at rec i) → at + run_of (drop at rec) ≡ i + 1 + run_of (drop (i + 1) rec)
+  run_goes l e = omega (arith, run_more rec i l (length_none (stretch_at rec i) e))
 
 -- ---- whole
 pub run_le : (s : List ℕ) → run_of s ≤ length s

@@ -1,4 +1,5 @@
 -- At most one stretch is taken at a place, and it is the one that tag 9 names. Assumes nothing.
+use Rattle.std.specs.Prelude.{Option, Some, None, Err}
 use mathlib.Core.Path.{◌≡◌, refl, sym, ap, ◌∙◌}
 use mathlib.Core.List.{List, [], ◌∷◌, ◌++◌, append_assoc}
 use mathlib.Core.Bool.{Bool, true, false, cond, ◌&&◌, false≢true}
@@ -6,8 +7,8 @@ use mathlib.Core.Logic.{◌⊎◌, inl, inr}
 use Prim.Native.Nat.{ℕ, ◌+◌, ◌-◌, ◌≤◌, ◌<◌}
 use native.Mathlib.Omega.{arith}
 use native.Mathlib.Nat.{sub-zero, add-zero}
-use borrow.Author.Tests.{leb-true, leb-false, le-leb}
-use lib.Dec.{leb}
+use borrow.Author.Tests.{leb-true, leb-false, le-leb, eqb-true, eqb-false, ne_eqb}
+use lib.Dec.{leb, eqb}
 use lib.ListN.{length, get_or, take, drop, take-append-drop}
 use lib.Seq.{take-take, take-append-add, length-take-le, get_or-drop}
 use Rattle.digits.proofs.Width.{both}
@@ -19,17 +20,17 @@ use Rattle.chain.specs.Places.{part}
 use Rattle.chain.proofs.Inverse.{Stands, stands, length_field, fair_is}
 use Rattle.frame.specs.Frames.{frame_of}
 use Rattle.frame.specs.ByPlace.{preamble}
-use Rattle.frame.specs.declared.Framed.{Framed}
+use Rattle.frame.specs.declared.FrameError.{FrameError}
 use Rattle.frame.proofs.Well.{Well, tags, nine_fair, whole_is, whole_length, inner_length, count_back}
 use Rattle.frame.proofs.Framing.{Held, frame_cases}
-use Rattle.stretch.specs.Stretches.{passes, Taken, longest, named_of, if_taken, stretch_of, stretch_at}
+use Rattle.stretch.specs.Stretches.{passes, Taken, some_length, longest, named_of, if_taken, stretch_of, stretch_at}
 use Rattle.stretch.specs.Windows.{beginning}
 
 -- ---- what passes holds but for its type
 good_held : (t : List ℕ) → passes (frame_of t) ≡ true → Held t
 good_held t g = go (frame_cases t)
   where
-    go : (frame_of t ≡ Framed.BadFrame) ⊎ Held t → Held t
+    go : (frame_of t ≡ Err FrameError.BadFrame) ⊎ Held t → Held t
     go (inl q) = absurd (false≢true (ap passes (sym q) ∙ g))
     go (inr h) = h
 
@@ -146,15 +147,51 @@ pub other_byte : (rec : List ℕ) (p : ℕ) → (get_or rec p 0 ≡ 56 → ⊥) 
 other_byte rec p f = none_taken (drop p rec) (λ n h. f (rw (get_or-drop p rec 0 0, add-zero) at (ap (λ (l : List ℕ). get_or l 0 0) (taken_named (drop p rec) h).begins)))
 
 -- ---- what the code finds
+-- a length as a number, and as what a function answers
+pub length_none : (n : ℕ) → None ≡ some_length n → n ≡ 0
+length_none n e = go (eqb n 0) refl e
+  where
+    go : (t : Bool) → eqb n 0 ≡ t → None ≡ cond t None (Some n) → n ≡ 0
+    go true p q = eqb-true n 0 p
+    go false p q = absurd (cc)
+
+pub length_some : {m : ℕ} (n : ℕ) → Some m ≡ some_length n → (n ≡ m) × (1 ≤ n)
+length_some {m} n e = go (eqb n 0) refl e
+  where
+    go : (t : Bool) → eqb n 0 ≡ t → Some m ≡ cond t None (Some n) → (n ≡ m) × (1 ≤ n)
+    go true p q = absurd (cc)
+    go false p q = (cc, omega (arith, eqb-false n 0 p))
+
+pub no_length : (n : ℕ) → n ≡ 0 → None ≡ some_length n
+no_length n z = rw z
+
+pub a_length : (n : ℕ) {m : ℕ} → n ≡ m → 1 ≤ m → Some m ≡ some_length n
+a_length n e l = rw (ne_eqb n 0 (λ z. omega arith)) (ap Some (sym e))
+
 pub too_short : (s : List ℕ) → length s < 18 → stretch_of s ≡ 0
 too_short s l = none_taken s (λ n h. omega (arith, (taken_named s h).low, h.inside))
 
-module _ (s : List ℕ) (m : ℕ) (e : m ≡ named_of (take 18 s)) where
-  pub beyond : length s < m → stretch_of s ≡ 0
-  beyond l = none_taken s (λ n h. omega (arith, (taken_named s h).name, h.inside))
+-- h is its first 18 bytes
+module _ (s h : List ℕ) (q : h ≡ take 18 s) where
+  pub unnamed : None ≡ some_length (named_of h) → stretch_of s ≡ 0
+  unnamed e = none_taken s (λ n t. omega (arith, length_none (named_of h) e, ap named_of q, (taken_named s t).name, (taken_named s t).low))
 
-  pub fails : passes (frame_of (part 0 m s)) ≡ false → stretch_of s ≡ 0
-  fails p = none_taken s (λ n h. let q : n ≡ m - 0 = omega (arith, (taken_named s h).name) in false≢true (sym p ∙ rw q at h.good))
+  module _ {m : ℕ} (e : Some m ≡ some_length (named_of h)) where
+    name : named_of (take 18 s) ≡ m
+    name = ap named_of (sym q) ∙ (length_some (named_of h) e).0
 
-  pub holds : m ≤ length s → passes (frame_of (part 0 m s)) ≡ true → stretch_of s ≡ m
-  holds l p = taken_stretch s m (record { inside = l; good = rw sub-zero at p })
+    pub beyond : length s < m → stretch_of s ≡ 0
+    beyond l = none_taken s (λ n t. omega (arith, name, (taken_named s t).name, t.inside))
+
+    -- m bytes are there
+    module _ (t : List ℕ) (r : t ≡ take (m - 0) s) where
+      same : t ≡ take m s
+      same = rw sub-zero at r
+
+      pub fails : passes (frame_of t) ≡ false → stretch_of s ≡ 0
+      fails p = none_taken s (λ n k. let d : n ≡ m = omega (arith, name, (taken_named s k).name) in false≢true (sym p ∙ ap (λ (u : List ℕ). passes (frame_of u)) same ∙ rw d at k.good))
+
+      pub holds : m ≤ length s → passes (frame_of t) ≡ true → Some m ≡ some_length (stretch_of s)
+      holds l p =
+          let k : Taken s m = record { inside = l; good = ap (λ (u : List ℕ). passes (frame_of u)) (sym same) ∙ p } in
+          a_length (stretch_of s) (taken_stretch s m k) (omega (arith, (taken_named s k).low))

@@ -1,19 +1,20 @@
 -- Where a message is taken in a recording (document 02, K12). Assumes nothing.
-use Rattle.std.specs.Prelude.{Option, Some, None}
-use Rattle.std.specs.Prelude.{ℕ, ◌+◌, ◌≤◌, ◌≡◌, List, Bool, true, false, cond, ◌&&◌, leb, length, take, drop}
+use Rattle.std.specs.Prelude.{Option, Some, None, Result, Ok, Err}
+use Rattle.std.specs.Prelude.{ℕ, ◌+◌, ◌≤◌, ◌≡◌, List, Bool, true, false, cond, ◌&&◌, leb, eqb, length, take, drop}
 use Rattle.digits.specs.Digits.{whole_of}
 use Rattle.chain.specs.Places.{part, field_at}
 use Rattle.chain.specs.declared.Step.{Step}
 use Rattle.frame.specs.Frames.{equal, frame_of}
 use Rattle.frame.specs.ByPlace.{tagged, preamble}
 use Rattle.frame.specs.declared.Framed.{Framed}
+use Rattle.frame.specs.declared.FrameError.{FrameError}
 
 -- 11 and 12 do not refuse it; 13 and 14 are not asked
-abbrev pub passes : Framed → Bool
-passes Framed.BadFrame = false
-passes Framed.BadSum = false
-passes Framed.BadType = true
-passes (Framed.Is kind from) = true
+abbrev pub passes : Result Framed FrameError → Bool
+passes (Err FrameError.BadFrame) = false
+passes (Err FrameError.BadSum) = false
+passes (Err FrameError.BadType) = true
+passes (Ok f) = true
 
 -- the first n bytes of s are a stretch that 11 and 12 do not refuse
 pub record Taken (s : List ℕ) (n : ℕ) : Type 0 where
@@ -23,6 +24,10 @@ pub record Taken (s : List ℕ) (n : ℕ) : Type 0 where
 -- no such stretch has more bytes
 abbrev pub longest : ℕ
 longest = 8192
+
+-- the length of a stretch; 0 stands for none
+abbrev pub some_length : ℕ → Option ℕ
+some_length n = cond (eqb n 0) None (Some n)
 
 -- the n bytes from p on
 abbrev pub taken : List ℕ → ℕ → ℕ → Type 0

@@ -4,93 +4,59 @@
 
 ghost use Rattle.std.specs.Prelude.{◌≡◌, ◌≤◌, length};
 ghost use Rattle.frame.specs.Frames.{frame_of};
-ghost use Rattle.stretch.specs.Stretches.{passes, named_of, stretch_of, stretch_at};
+ghost use Rattle.stretch.specs.Stretches.{passes, some_length, named_of, stretch_of, stretch_at};
 ghost use Rattle.stretch.specs.Runs.{Ends};
 
 use chain::Step;
-use frame::Framed;
+use frame::FrameError;
 
 // 8=FIX.4.4 and its SOH, 9= with five digits and its SOH
 const HEAD_BYTES: usize = frame::BEGIN_BYTES + 8;
 
-// Where a run of passed bytes ends, and the length of the message that is taken there, or 0.
+// Where a run of passed bytes ends, and the length of the message that is taken there, if one is.
 #[derive(Clone, Copy)]
 pub struct Gap {
     pub end: usize,
-    pub next: usize,
+    pub next: Option<usize>,
 }
 
-// The length of the stretch that 8 and 9 name, or 0. The first 18 bytes settle it, so a look costs the same at every place.
-fn named(h: &[u8]) -> usize
+// The length of the stretch that 8 and 9 name. The first 18 bytes settle it, so a look costs the same at every place.
+#[tactic(auto, unfolding(crate::specs::Stretches::named_of))]
+fn named(h: &[u8]) -> Option<usize>
     requires { length h.now ≡ 18 }
-    ensures { result ≡ named_of h.now }
+    ensures { result ≡ some_length (named_of h.now) }
 {
     if !frame::begins(h) {
-        return 0;
+        return None;
     }
-    let Some(Step { tag, from, to }) = chain::field(h, frame::BEGIN_BYTES) else {
-        return 0;
-    };
-    if tag != 9 {
-        return 0;
-    }
-    let Some(count) = digits::whole(&h[from..to], 5) else {
-        return 0;
-    };
-    to + 1 + (count as usize) + frame::TRAILER_BYTES
+    let Step { tag: _, from, to } = frame::field_of(h, frame::BEGIN_BYTES, 9)?;
+    let count = digits::whole(&h[from..to], 5)?;
+    Some(to + 1 + count as usize + frame::TRAILER_BYTES)
 }
 
 // Whether neither 11 nor 12 refuses the bytes.
 fn accepted(s: &[u8]) -> bool
     ensures { result ≡ passes (frame_of s.now) }
 {
-    let f = frame::frame(s);
-    match f {
-        Framed::Is { kind: _, from: _ } => {
-            return true;
-        }
-        Framed::BadFrame => {
-            return false;
-        }
-        Framed::BadSum => {
-            return false;
-        }
-        Framed::BadType => {
-            return true;
-        }
-    }
+    matches!(frame::frame(s), Ok(_) | Err(FrameError::BadType))
 }
 
-// The length of the message that is taken at the start of the bytes, or 0.
-fn message_of(s: &[u8]) -> usize
-    ensures { result ≡ stretch_of s.now }
+// The length of the message that is taken at the start of the bytes.
+fn message_of(s: &[u8]) -> Option<usize>
+    ensures { result ≡ some_length (stretch_of s.now) }
 {
-    let n = s.len();
-    if n < HEAD_BYTES {
-        return 0;
-    }
-    let m = named(&s[0..HEAD_BYTES]);
-    if n < m {
-        return 0;
-    }
-    if !accepted(&s[0..m]) {
-        return 0;
-    }
-    m
+    let m = named(s.get(..HEAD_BYTES)?)?;
+    if accepted(s.get(..m)?) { Some(m) } else { None }
 }
 
-// The length of the message that is taken at a place of a recording, or 0. Most bytes of a hole cost one comparison.
-pub fn message_at(rec: &[u8], at: usize) -> usize
-    ensures { result ≡ stretch_at rec.now at }
+// The length of the message that is taken at a place of a recording. Most bytes of a hole cost one comparison.
+pub fn message_at(rec: &[u8], at: usize) -> Option<usize>
+    ensures { result ≡ some_length (stretch_at rec.now at) }
 {
-    let n = rec.len();
-    if n <= at {
-        return 0;
+    if *rec.get(at)? != b'8' {
+        return None;
     }
-    if rec[at] != b'8' {
-        return 0;
-    }
-    message_of(&rec[at..n])
+    message_of(&rec[at..])
 }
 
 // Where the bytes that are passed over from a place on end: at the next message, or at the end.
@@ -98,13 +64,16 @@ pub fn run(rec: &[u8], at: usize) -> Gap
     requires { at ≤ length rec.now }
     ensures { Ends rec.now at result.end result.next }
 {
-    let mut i = at;
-    while i < rec.len() {
-        let m = message_at(rec, i);
-        if m != 0 {
-            return Gap { end: i, next: m };
+    for i in at..rec.len() {
+        if let Some(m) = message_at(rec, i) {
+            return Gap {
+                end: i,
+                next: Some(m),
+            };
         }
-        i += 1;
     }
-    Gap { end: i, next: 0 }
+    Gap {
+        end: rec.len(),
+        next: None,
+    }
 }

@@ -8,8 +8,8 @@ pub returns-then-s-to : goal.returns-then-s-to
 returns-then-s-to c =
     let h = c.in_ok-tag.ensures in
     elim c.then-s-to.branch [
-    | then-s-to-via-then-s-to w ↦ sym (no_end _ _ _ _ _ h.0 h.1.0 h.1.1 c.find-to.ensures w.if-s-to.true)
-    | then-s-to-via-else-s-to+then-to-from w ↦ sym (no_text _ _ _ _ _ h.0 h.1.0 h.1.1 c.find-to.ensures w.if-s-to.false w.if-to-from.true)
+      | then-s-to-via-then-s-to w ↦ sym (no_end _ _ _ _ _ h.0 h.1.0 h.1.1 c.find-to.ensures w.if-s-to.true)
+      | then-s-to-via-else-s-to+then-to-from w ↦ sym (no_text _ _ _ _ _ h.0 h.1.0 h.1.1 c.find-to.ensures w.if-s-to.false w.if-to-from.true)
     ]
 
 pub returns : goal.returns

@@ -1,10 +1,7 @@
--- `frame::sum` meets its contract: what was added and what is left give the whole sum's remainder. Assumes nothing.
-use Rattle.std.proofs.Common.{◌≡◌, ◌+◌, ◌-◌, ◌%◌, ◌<◌, ◌≤◌, take, drop}
+-- `frame::sum` meets its contract: what was added is the sum of the bytes so far, wrapped at 256. Assumes nothing.
+use Rattle.std.proofs.Common.{◌≡◌, ◌%◌, take}
 use Rattle.frame.specs.Frames.{total}
 use Rattle.frame.proofs.sum.Given as goal
 
-abbrev pub invariant-loop-i : goal.invariant-loop-i
-invariant-loop-i l = (l.i ≤ l.n) × (l.v < 256) × ((l.v + total (drop l.i (take l.end l.s))) % 256 ≡ total (take l.end l.s) % 256)
-
-abbrev pub decreases-loop-i : goal.decreases-loop-i
-decreases-loop-i l = l.n - l.i
+abbrev pub invariant-loop-b : goal.invariant-loop-b
+invariant-loop-b l = l.v ≡ total (take l.b-index l.b-items) % 256

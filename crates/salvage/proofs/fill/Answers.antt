@@ -15,14 +15,14 @@ shape_of-out-then-room-at-lt-PIECE c = c.loop-i.invariant.0.long
 pub returns-then-room-at-lt-PIECE : goal.returns-then-room-at-lt-PIECE
 returns-then-room-at-lt-PIECE c = going_full _ _ _ _ _ _ _ c.loop-i.invariant.0 c.if-room-at-lt-PIECE.true
 
-pub first-x-requires : goal.first-x-requires
-first-x-requires c = (c.loop-i-test.true, c.loop-i.invariant.1)
+pub first-kind-requires : goal.first-kind-requires
+first-kind-requires c = (c.loop-i-test.true, c.loop-i.invariant.1)
 
 pub put-requires : goal.put-requires
 put-requires c = let g = c.loop-i.invariant.0 in omega (arith, g.room, g.long, c.if-room-at-lt-PIECE.false)
 
 pub overflow_add-i : goal.overflow_add-i
-overflow_add-i c = let f = c.first-x.ensures in omega (arith, f.inside)
+overflow_add-i c = let f = c.first-kind.ensures in omega (arith, f.inside)
 
 pub overflow_add-at : goal.overflow_add-at
 overflow_add-at c =
@@ -36,12 +36,12 @@ overflow_add-k c =
 
 pub loop-i-smaller : goal.loop-i-smaller
 loop-i-smaller c =
-    let f = c.first-x.ensures in
+    let f = c.first-kind.ensures in
     omega (arith, f.some, f.inside)
 
 pub loop-i-preserved : goal.loop-i-preserved
 loop-i-preserved c =
-    (going_on _ _ _ _ _ _ _ c.loop-i.invariant.0 _ _ _ _ c.if-room-at-lt-PIECE.false c.first-x.ensures c.put.ensures, c.first-x.ensures.after)
+    (going_on _ _ _ _ _ _ _ c.loop-i.invariant.0 _ _ _ _ c.if-room-at-lt-PIECE.false c.first-kind.ensures c.put.ensures, c.first-kind.ensures.after)
 
 pub shape_of-out : goal.shape_of-out
 shape_of-out c = c.loop-i.invariant.0.long

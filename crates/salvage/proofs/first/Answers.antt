@@ -1,19 +1,13 @@
 -- `salvage::first` meets its contract: a message, or a run. Assumes nothing.
-use native.Mathlib.Omega.{arith}
-use Rattle.salvage.proofs.Walking.{message_inside}
-use Rattle.salvage.proofs.Filling.{first_message, first_run}
+use Rattle.std.proofs.Common.{sym, ◌∙◌, arith}
+use Rattle.salvage.proofs.Filling.{first_inside, first_message, first_run}
 use Rattle.salvage.proofs.first.Goals as goal
 
 pub overflow_add-at : goal.overflow_add-at
-overflow_add-at c =
-    omega (arith, message_inside c.args.rec.now c.args.at (omega arith), c.requires.0, c.requires.1)
+overflow_add-at c = omega (arith, first_inside _ _ c.requires.0 (sym c.in-Some.is ∙ c.requires.1))
 
-pub returns-then-m-ne0 : goal.returns-then-m-ne0
-returns-then-m-ne0 c =
-    let p = c.requires in
-    first_message _ _ _ _ p.0 p.1 c.if-m-ne0.true c.message_at-next.ensures
+pub returns-in-Some : goal.returns-in-Some
+returns-in-Some c = first_message _ _ c.requires.0 (sym c.in-Some.is ∙ c.requires.1) _ c.message_at-next.ensures
 
 pub returns : goal.returns
-returns c =
-    let p = c.requires in
-    first_run _ _ _ _ p.0 p.1 _ c.if-m-ne0.false c.run-g.ensures
+returns c = first_run _ _ c.requires.0 _ _ (sym c.in_default.is ∙ c.requires.1) c.run-end.ensures

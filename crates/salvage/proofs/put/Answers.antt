@@ -11,4 +11,4 @@ pub bounds-out-at-3 : goal.bounds-out-at-3
 bounds-out-at-3 c = simp length-set (omega arith)
 
 pub returns : goal.returns
-returns c = simp towards_suc
+returns c = let e = c.from.ensures in simp towards_suc (rw e)

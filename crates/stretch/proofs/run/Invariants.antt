@@ -1,12 +1,9 @@
 -- `stretch::run` meets its contract: where the run ends is where it ends from i on. Assumes nothing.
-use Prim.Native.Nat.{◌+◌, ◌-◌, ◌≤◌}
+use Prim.Native.Nat.{◌+◌}
 use mathlib.Core.Path.{◌≡◌}
-use lib.ListN.{length, drop}
+use lib.ListN.{drop}
 use Rattle.stretch.specs.Runs.{run_of}
 use Rattle.stretch.proofs.run.Given as goal
 
 abbrev pub invariant-loop-i : goal.invariant-loop-i
-invariant-loop-i l = (l.i ≤ length l.rec) × (l.at + run_of (drop l.at l.rec) ≡ l.i + run_of (drop l.i l.rec))
-
-abbrev pub decreases-loop-i : goal.decreases-loop-i
-decreases-loop-i l = length l.rec - l.i
+invariant-loop-i l = l.at + run_of (drop l.at l.rec) ≡ l.i + run_of (drop l.i l.rec)
