@@ -64,14 +64,6 @@ module _ (p : ℤ) (fits : SFits w64 p) (minus : lt_z (to_z w64 (of_z w64 p)) (p
   pub flip_back : to_z w64 (of_z w64 (negsuc 0 -ℤ to_z w64 (of_z w64 p))) ≡ pos (mag p)
   flip_back = ap (λ (z : ℤ). to_z w64 (of_z w64 z)) flip_same ∙ to_z_pos w64 fits.sfits
 
-  pub held_minus : held_of p ≡ mag p * 2 + 1
-  unfolding held_of
-  held_minus = go p (rw (to_z-of_z fits) at minus)
-    where
-      go : (q : ℤ) → lt_z q (pos 0) ≡ true → held_of q ≡ mag q * 2 + 1
-      go (pos n) h = absurd (omega (arith, ltb-true n 0 h))
-      go (negsuc n) h = refl
-
 pub held_plus : (p : ℤ) → lt_z p (pos 0) ≡ false → (p ≡ pos (mag p)) × (held_of p ≡ mag p * 2)
 unfolding held_of
 held_plus (pos n) h = (refl, refl)
@@ -81,18 +73,3 @@ held_plus (negsuc n) h = absurd (false≢true (sym h))
 pub down : (n : ℕ) → n < 2 ^ 63 → negsuc 0 -ℤ pos n ≡ negsuc n
 down zero h = refl
 down (suc n) h = rw zero-add
-
-module _ (w : ℕ) (small : w / 2 < 2 ^ 63) where
-  pub even : w % 2 ≡ 0 → to_z w64 (w / 2) ≡ of_held w
-  unfolding of_held
-  even e = rw (eq-eqb (w % 2) 0 e) (to_z_pos w64 small)
-
-  odd_is : negsuc 0 -ℤ to_z w64 (w / 2) ≡ negsuc (w / 2)
-  odd_is = rw (to_z_pos w64 small) (down (w / 2) small)
-
-  pub odd_fits : SFits w64 (negsuc 0 -ℤ to_z w64 (w / 2))
-  odd_fits = rw odd_is (record { sfits = small })
-
-  pub odd : (w % 2 ≡ 0 → ⊥) → to_z w64 (of_z w64 (negsuc 0 -ℤ to_z w64 (w / 2))) ≡ of_held w
-  unfolding of_held
-  odd e = rw (ne_eqb (w % 2) 0 e) (to_z-of_z odd_fits ∙ odd_is)

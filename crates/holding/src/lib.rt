@@ -12,6 +12,7 @@ pub const WHOLES: usize = 9;
 pub const DECIMALS: usize = 8;
 
 // Powers of ten, by the number of their zeros.
+// Kept: the checker refuses a call in a constant's value, so `10_u64.pow(8)` is not to be had here.
 const TENS: [u64; 10] = [
     1, 10, 100, 1000, 10000, 100000, 1000000, 10000000, 100000000, 1000000000,
 ];
@@ -24,21 +25,22 @@ pub const MOST_HELD: u64 = (TENS[WHOLES] * UNIT - 1) * 2;
 
 // The number that holds a price: 0 for 0, then 1 for the first below, 2 for the first above, and so on. Every number of
 // 64 bits holds one price, and the prices of tag 270 fill one range from 0.
+#[tactic(auto, unfolding(crate::specs::Prices::held_of))]
 pub fn held(p: i64) -> u64
     ensures { result ≡ held_of p }
 {
     if p < 0 {
-        return ((-1 - p) as u64) * 2 + 1;
+        (p.unsigned_abs() - 1) * 2 + 1
+    } else {
+        p.unsigned_abs() * 2
     }
-    (p as u64) * 2
 }
 
+// The price that a number holds.
+#[tactic(auto, unfolding(crate::specs::Prices::of_held))]
 pub fn of_held(w: u64) -> i64
     ensures { result ≡ of_held w }
 {
     let m = (w / 2) as i64;
-    if w % 2 == 0 {
-        return m;
-    }
-    -1 - m
+    if w % 2 == 0 { m } else { -1 - m }
 }
