@@ -16,14 +16,8 @@ use Rattle.book.specs.declared.reasons.Breach.TheVariants.{Place, Room}
 use Rattle.book.specs.Results.{reason_number, done_from}
 use Rattle.book.specs.Rules.{most_places, bad_place, is_place}
 use Rattle.book.specs.Sides.{Done, done, refused, held_at, new_at, change_at, delete_at, delete_thru, delete_from, side_step, breach_of, first_changed}
-use Rattle.book.proofs.Tests.{by_test, place_in, place_zero, place_is}
+use Rattle.book.proofs.Tests.{by_test, place_in, place_is}
 use Rattle.book.proofs.Untouched.{side_answered}
-
--- the place 0 is a breach of every action
-pub zero_breach : (n action p : ℕ) → p ≡ 0 → bad_place ≡ breach_of n action p
-unfolding breach_of
-zero_breach n action p h =
-    by_test (λ r. bad_place ≡ r) (eqb action 0) (λ _. rw (place_zero p (n + 1) h)) (λ _. rw (place_zero p n h))
 
 -- a side of n places that does not refuse an action at p
 pub record Fair (n action p : ℕ) : Type 0 where

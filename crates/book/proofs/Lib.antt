@@ -1,5 +1,5 @@
 pub mod Padding
-pub mod Turns
+pub mod Shifts
 pub mod Tests
 pub mod Canon
 pub mod Listed

@@ -1,10 +1,10 @@
 -- When p is one of the places 1 to n, as the test says it and as numbers say it, and where the test leads.
 use mathlib.Core.Path.{◌≡◌, refl}
 use mathlib.Core.Bool.{Bool, true, false, cond, ◌&&◌}
-use Prim.Native.Nat.{ℕ, ◌≤◌, ◌<◌}
+use Prim.Native.Nat.{ℕ, ◌≤◌}
 use native.Mathlib.Omega.{arith}
 use lib.Dec.{leb}
-use borrow.Author.Tests.{leb-true, le-leb, lt-leb}
+use borrow.Author.Tests.{leb-true, le-leb}
 use Rattle.book.specs.Rules.{is_place}
 
 -- a test, by what holds either way
@@ -14,12 +14,6 @@ by_test R false h g = g refl
 
 pub place_in : (p n : ℕ) → 1 ≤ p → p ≤ n → is_place p n ≡ true
 place_in p n a b = rw (le-leb 1 p a, le-leb p n b)
-
-pub place_zero : (p n : ℕ) → p ≡ 0 → is_place p n ≡ false
-place_zero p n h = rw (lt-leb 1 p (omega arith))
-
-pub place_past : (p n : ℕ) → n < p → is_place p n ≡ false
-place_past p n h = rw (le-leb 1 p (omega arith), lt-leb p n h)
 
 pub place_is : (p n : ℕ) → is_place p n ≡ true → (1 ≤ p) × (p ≤ n)
 place_is p n h = go (leb 1 p) refl h

@@ -56,7 +56,7 @@ pub struct Entry {
 // The bids or the offers, place 1 first; the first `held` places are used.
 #[derive(Clone, Copy)]
 pub struct Side {
-    pub places: [Entry; 20],
+    pub places: [Entry; PLACES],
     pub held: usize,
 }
 
@@ -84,7 +84,7 @@ pub struct Update {
 pub fn is_id(id: u64) -> bool
     ensures { result ≡ id_fine id }
 {
-    (1 <= id) & (id <= MOST_ID)
+    matches!(id, 1..=MOST_ID)
 }
 
 // The entry of an unused place.
@@ -104,73 +104,71 @@ pub fn no_entry() -> Entry
 pub fn no_side() -> Side
     ensures { result ≡ no_side }
 {
-    let e = no_entry();
-    let a = [e; 20];
-    Side { places: a, held: 0 }
+    Side {
+        places: [no_entry(); PLACES],
+        held: 0,
+    }
 }
 
 // A book that holds nothing.
 pub fn no_book() -> Book
     ensures { result ≡ no_book }
 {
-    let s = no_side();
-    Book { bids: s, offers: s }
+    let side = no_side();
+    Book {
+        bids: side,
+        offers: side,
+    }
 }
 
 // Puts e at index `at`; the rest moves down, and the last falls off.
-fn push(a: [Entry; 20], at: usize, e: Entry) -> [Entry; 20]
+#[tactic(auto, using(crate::proofs::Shifts::pushed, crate::proofs::Shifts::past))]
+fn push(mut a: [Entry; PLACES], at: usize, e: Entry) -> [Entry; PLACES]
     ensures { result ≡ pad most_places (take at a ++ e ∷ drop at a) }
 {
-    let mut b = a;
-    let mut carry = e;
-    let mut i = at;
-    while i < PLACES {
-        let t = b[i];
-        b[i] = carry;
-        carry = t;
-        i += 1;
+    if at < PLACES {
+        a.copy_within(at..PLACES - 1, at + 1);
+        a[at] = e;
     }
-    b
+    a
 }
 
 // Takes `count` entries out from index `at`; the rest moves up, and unused places come at the end.
-fn pull(a: [Entry; 20], at: usize, count: usize) -> [Entry; 20]
+fn pull(mut a: [Entry; PLACES], at: usize, count: usize) -> [Entry; PLACES]
     ensures { result ≡ pad most_places (take at a ++ drop (at + count) a) }
 {
-    let mut b = a;
-    let mut i = at;
-    while i < PLACES {
-        let mut t = no_entry();
-        if count < PLACES - i {
-            let j = i + count;
-            t = b[j];
-        }
-        b[i] = t;
-        i += 1;
+    if PLACES <= at || PLACES - at <= count {
+        return keep(a, at);
     }
-    b
+    a.copy_within(at + count.., at);
+    keep(a, PLACES - count)
 }
 
 // Keeps the entries before index `at`; the rest becomes unused places.
-fn keep(a: [Entry; 20], at: usize) -> [Entry; 20]
+#[tactic(auto, using(crate::proofs::Shifts::cleared, crate::proofs::Shifts::kept_past))]
+fn keep(mut a: [Entry; PLACES], at: usize) -> [Entry; PLACES]
     ensures { result ≡ pad most_places (take at a) }
 {
-    pull(a, at, PLACES)
+    if at < PLACES {
+        a[at..].fill(no_entry());
+    }
+    a
 }
 
 // Replaces the entry at index `at`.
-fn put(a: [Entry; 20], at: usize, e: Entry) -> [Entry; 20]
+#[tactic(auto, using(crate::proofs::Shifts::replaced, crate::proofs::Shifts::past))]
+fn put(mut a: [Entry; PLACES], at: usize, e: Entry) -> [Entry; PLACES]
     ensures { result ≡ pad most_places (take at a ++ e ∷ drop (at + 1) a) }
 {
-    let mut b = a;
     if at < PLACES {
-        b[at] = e;
+        a[at] = e;
     }
-    b
+    a
 }
 
 // Whether a side that holds n places refuses an action at place p, and why. The place is tested before the room, and an action
 // above 4 is a breach of place.
+#[tactic(auto, unfolding(crate::specs::Sides::breach_of))]
 pub fn breach(n: usize, action: u64, p: usize) -> Result<(), Breach>
     ensures { breach_number result ≡ breach_of n action p }
 {
@@ -199,45 +197,42 @@ pub fn breach(n: usize, action: u64, p: usize) -> Result<(), Breach>
 pub fn first_changed(action: u64, at: usize) -> usize
     ensures { (result ≡ first_changed action at) × (result ≤ at) }
 {
-    if action == DELETE_THRU {
-        return 0;
-    }
-    at
+    if action == DELETE_THRU { 0 } else { at }
 }
 
 // The side after an action that is no breach.
+#[tactic(auto, using(crate::proofs::Breaches::no_breach, crate::proofs::Breaches::new_leaves, crate::proofs::Breaches::change_leaves, crate::proofs::Breaches::gone_leaves, crate::proofs::Breaches::from_leaves))]
 pub fn worked(s: Side, action: u64, p: usize, e: Entry) -> Side
     requires { breach_of s.held action p ≡ 0 }
     ensures { result ≡ (side_step s action p e).side }
 {
-    let n = s.held;
-    let a = s.places;
     let at = p - 1;
     match action {
-        NEW => {
-            let places = push(a, at, e);
-            let held = n + 1;
-            Side { places, held }
-        }
-        CHANGE => {
-            let places = put(a, at, e);
-            Side { places, held: n }
-        }
-        DELETE_FROM => {
-            let places = keep(a, at);
-            Side { places, held: at }
-        }
+        NEW => Side {
+            places: push(s.places, at, e),
+            held: s.held + 1,
+        },
+        CHANGE => Side {
+            places: put(s.places, at, e),
+            ..s
+        },
+        DELETE_FROM => Side {
+            places: keep(s.places, at),
+            held: at,
+        },
         _ => {
             let from = first_changed(action, at);
             let gone = p - from;
-            let places = pull(a, from, gone);
-            let held = n - gone;
-            Side { places, held }
+            Side {
+                places: pull(s.places, from, gone),
+                held: s.held - gone,
+            }
         }
     }
 }
 
 // The operation that the action names, or its breach.
+#[tactic(auto, using(crate::proofs::Breaches::refused_by, crate::proofs::Breaches::step_reason))]
 fn on_side(s: Side, action: u64, p: usize, e: Entry) -> Result<Side, Breach>
     ensures { done_from s result ≡ side_step s action p e }
 {
@@ -247,6 +242,7 @@ fn on_side(s: Side, action: u64, p: usize, e: Entry) -> Result<Side, Breach>
 
 // One entry of a message on the book of its instrument: the side that it names is worked and the other stays; J
 // empties both.
+#[tactic(auto, unfolding(crate::specs::Sides::book_step))]
 pub fn apply(b: Book, u: Update) -> Result<Book, Breach>
     ensures { turn_from b result ≡ book_step b u }
 {
