@@ -4,59 +4,40 @@
 
 ghost use Rattle.std.specs.Prelude.{true, ◌≡◌, ◌≤◌};
 ghost use Rattle.tags.specs.Slots.{breaks};
+ghost use Rattle.place.specs.Places.{place_of};
 ghost use Rattle.place.specs.Walks.{Walk};
 
 use chain::Step;
-use tags::Marks;
+use tags::{Marks, Span};
 
-// A place that was walked: whether its rules hold, where it ends, and what stands in it.
-#[derive(Clone, Copy)]
-pub struct Place {
-    pub ok: bool,
-    pub at: usize,
-    pub marks: Marks,
-}
-
-// Walks a place from `start` up to the first field with the tag `stop`, or to the end. Of the first `named` slots only
-// those from low up to high may stand in it. Bytes that are no field breach its rules.
-pub fn walk(s: &[u8], start: usize, stop: u64, named: usize, low: usize, high: usize) -> Place
+// Walks a place from `start` up to the first field with the tag `stop`, or to the end, and marks each field that it
+// passes. It answers where the place ends, unless a rule is breached: of the first `named` slots only those from low up
+// to high may stand in it, each once, and bytes that are no field may not.
+pub fn walk(
+    s: &[u8],
+    start: usize,
+    marks: &mut Marks,
+    stop: u64,
+    named: usize,
+    low: usize,
+    high: usize,
+) -> Option<usize>
     requires { (named ≤ 21) × ((high ≤ 21) × (breaks stop named low high ≡ true)) }
-    ensures { Walk s.now start stop named low high result }
+    ensures { Walk s.now start stop named low high marks.old (place_of result marks.new) }
 {
     let end = s.len();
-    let mut m = tags::no_marks();
     let mut at = start;
     while at < end {
-        let Some(Step { tag, from, to }) = chain::field(s, at) else {
-            return Place {
-                ok: false,
-                at,
-                marks: m,
-            };
-        };
+        let Step { tag, from, to } = chain::field(s, at)?;
         if tag == stop {
-            return Place {
-                ok: true,
-                at,
-                marks: m,
-            };
+            return Some(at);
         }
         let k = tags::slot(tag);
-        let seen = m.to[k];
-        if tags::stray(k, named, low, high, seen) {
-            return Place {
-                ok: false,
-                at,
-                marks: m,
-            };
+        if tags::stray(k, named, low, high, marks.spans[k].is_some()) {
+            return None;
         }
-        m.from[k] = from;
-        m.to[k] = to;
+        marks.spans[k] = Some(Span { from, to });
         at = to + 1;
     }
-    Place {
-        ok: true,
-        at,
-        marks: m,
-    }
+    Some(at)
 }

@@ -3,12 +3,12 @@
 #![tactic(auto)]
 
 ghost use Rattle.std.specs.Prelude.{◌≡◌, ◌<◌};
-ghost use Rattle.tags.specs.Slots.{marked};
+ghost use Rattle.tags.specs.ByTag.{by_tag};
 ghost use Rattle.position.specs.Positions.{next_on, next_after, entry_next};
 
 use entries::Said;
 use message::Verdict;
-use tags::Marks;
+use tags::Values;
 
 // The first tag of an entry in X and in W.
 pub const FIRST_X: u64 = 279;
@@ -76,13 +76,13 @@ impl Next {
 
 // What an entry says; in a W it must stand at the next position of its side.
 #[tactic(auto, unfolding(crate::specs::Positions::entry_next, crate::specs::Positions::entry_in, crate::specs::Positions::at_next))]
-pub fn entry(s: &[u8], depth: u64, t: Top, next: Next, m: Marks) -> Said
-    ensures { result ≡ entry_next depth t next (marked s.now m) }
+pub fn entry(v: Values, depth: u64, t: Top, next: Next) -> Said
+    ensures { result ≡ entry_next depth t next (by_tag v.entry) }
 {
     if t.first == FIRST_X {
-        return entries::in_x(s, depth, m);
+        return entries::in_x(v, depth);
     }
-    match entries::in_w(s, depth, t.id, m)? {
+    match entries::in_w(v, depth, t.id)? {
         Some(u) if u.place != next.on(u.what) => None,
         said => Some(said),
     }

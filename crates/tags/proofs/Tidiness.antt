@@ -1,4 +1,6 @@
 -- The rules of a place, checked field by field as they come. Assumes nothing.
+use Rattle.std.specs.Prelude.{None}
+use Rattle.std.specs.Option.{is_some}
 use mathlib.Core.Path.{◌≡◌, refl, sym}
 use mathlib.Core.List.{List, [], ◌∷◌, ◌++◌}
 use mathlib.Core.Bool.{Bool, true, false, not, ◌&&◌, ◌||◌, and-false, or-true, false≢true, true≢false}
@@ -103,14 +105,14 @@ outside false true false = refl
 outside false false c = refl
 
 module _ (s : List ℕ) (m : Marks) (e : List Field) (named low high : ℕ) (h : Holds named s m e) (n : named ≤ 21) (g : high ≤ 21) (f : Field) where
-  pub fits_test : fits (below named) (between low high) e f ≡ not (strays (slot_of f.tag) named low high (get_or m.to (slot_of f.tag) 0))
+  pub fits_test : fits (below named) (between low high) e f ≡ not (strays (slot_of f.tag) named low high (is_some (get_or m.spans (slot_of f.tag) None)))
   fits_test = rw (has_below f.tag named n, has_between f.tag low high g) (go (slot_of f.tag) refl (ltb (slot_of f.tag) named) refl)
     where
       go : (k : ℕ) → slot_of f.tag ≡ k → (z : Bool) → ltb k named ≡ z
           → not z || ((leb low k && ltb k high) && not (stands f.tag e))
-          ≡ not (z && ((ltb k low || leb high k) || not (eqb (get_or m.to k 0) 0)))
+          ≡ not (z && ((ltb k low || leb high k) || is_some (get_or m.spans k None)))
       go k q true p =
           let l : slot_of f.tag < named = omega (arith, ltb-true k named p) in
-          let r : stands f.tag e ≡ not (eqb (get_or m.to k 0) 0) = rw q at (h.seen f.tag l) in
-          rw (not_below k low, not_below k high, r) (outside (ltb k low) (ltb k high) (not (eqb (get_or m.to k 0) 0)))
+          let r : stands f.tag e ≡ is_some (get_or m.spans k None) = rw q at (h.seen f.tag l) in
+          rw (not_below k low, not_below k high, r) (outside (ltb k low) (ltb k high) (is_some (get_or m.spans k None)))
       go k q false p = refl

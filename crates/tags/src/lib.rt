@@ -3,7 +3,7 @@
 // by the slot of its tag, as a part of the lent bytes, and nothing is read until it is needed.
 #![tactic(auto)]
 
-ghost use Rattle.std.specs.Prelude.{◌≡◌, ◌≤◌, ◌<◌, get_or};
+ghost use Rattle.std.specs.Prelude.{None, ◌≡◌, ◌≤◌, ◌<◌, get_or};
 ghost use Rattle.tags.specs.Slots.{slot_of, no_marks, text_at, strays};
 
 // The slots, in an order in which what may stand in a place is one run of them. Slots 0 to 3 are those of 8, 9, 35 and
@@ -45,14 +45,42 @@ pub const COUNT: usize = 20;
 // How many tags are named, and the slot of every other tag.
 pub const NAMED: usize = 21;
 
-// The values of a place by slot: the bytes from..to, where a to of 0 says that the tag does not stand there.
+// Where a value stands: the bytes from..to.
+#[derive(Clone, Copy)]
+pub struct Span {
+    pub from: usize,
+    pub to: usize,
+}
+
+// Where the values of a place stand, by the slot of their tag.
 #[derive(Clone, Copy)]
 pub struct Marks {
-    pub from: [usize; 22],
-    pub to: [usize; 22],
+    pub spans: [Option<Span>; 22],
+}
+
+// The values of a place: the lent bytes, and where they stand there.
+#[derive(Clone, Copy)]
+pub struct Values<'a> {
+    pub text: &'a [u8],
+    pub marks: &'a Marks,
+}
+
+impl<'a> Values<'a> {
+    // The value of slot k, or no bytes where there is none.
+    #[tactic(auto, unfolding(crate::specs::Slots::text_at))]
+    pub fn get(self, k: usize) -> &'a [u8]
+        requires { k < 22 }
+        ensures { result.now ≡ text_at self.entry.text.now (get_or self.entry.marks.now.spans k None) }
+    {
+        match self.marks.spans[k] {
+            Some(Span { from, to }) if from <= to && to <= self.text.len() => &self.text[from..to],
+            _ => &self.text[..0],
+        }
+    }
 }
 
 // The slot of a tag.
+#[tactic(auto, unfolding(crate::specs::Slots::slot_of))]
 pub fn slot(tag: u64) -> usize
     ensures { (result ≡ slot_of tag) × (result ≤ 21) }
 {
@@ -86,33 +114,13 @@ pub fn slot(tag: u64) -> usize
 pub fn no_marks() -> Marks
     ensures { result ≡ no_marks }
 {
-    let zeros = [0usize; 22];
-    Marks {
-        from: zeros,
-        to: zeros,
-    }
+    Marks { spans: [None; 22] }
 }
 
 // Whether a field of slot k breaches the rules of a place: its tag is one of the first `named`, and may not stand there
 // or was seen there.
-pub fn stray(k: usize, named: usize, low: usize, high: usize, seen: usize) -> bool
+pub fn stray(k: usize, named: usize, low: usize, high: usize, seen: bool) -> bool
     ensures { result ≡ strays k named low high seen }
 {
-    (k < named) & (((k < low) | (high <= k)) | (seen != 0))
-}
-
-// The value of slot k, or no bytes where there is none.
-pub fn value(s: &[u8], m: Marks, k: usize) -> &[u8]
-    requires { k < 22 }
-    ensures { result.now ≡ text_at s.now (get_or m.from k 0) (get_or m.to k 0) }
-{
-    let from = m.from[k];
-    let to = m.to[k];
-    if to < from {
-        return &s[0..0];
-    }
-    if s.len() < to {
-        return &s[0..0];
-    }
-    &s[from..to]
+    k < named && (k < low || high <= k || seen)
 }

@@ -3,12 +3,12 @@
 #![tactic(auto)]
 
 ghost use Rattle.std.specs.Prelude.{◌≡◌};
-ghost use Rattle.tags.specs.Slots.{marked};
+ghost use Rattle.tags.specs.ByTag.{by_tag};
 ghost use Rattle.values.specs.Values.{bvmf, instrument_of, sort_of, by_of, moment_in, values_of};
 
 use book::Entry;
 use orderid::OrderId;
-use tags::Marks;
+use tags::Values;
 
 // A sort of 269 that is passed over; the others are book's bid, offer and J.
 const OTHER: u64 = 3;
@@ -37,12 +37,12 @@ fn market(text: &[u8]) -> bool
 
 // 48, beside 22 and 207.
 #[tactic(auto, unfolding(crate::specs::Values::instrument_of, tags::specs::Slots::marked, tags::specs::Slots::slot_of))]
-pub fn instrument(s: &[u8], m: Marks) -> Option<u64>
-    ensures { result ≡ instrument_of (marked s.now m) }
+pub fn instrument(v: Values) -> Option<u64>
+    ensures { result ≡ instrument_of (by_tag v.entry) }
 {
-    let id = digits::ranged(tags::value(s, m, tags::INSTRUMENT), 18, 1, book::MOST_ID)?;
-    let listed = frame::same(tags::value(s, m, tags::SOURCE), b"8");
-    if listed && market(tags::value(s, m, tags::MARKET)) {
+    let id = digits::ranged(v.get(tags::INSTRUMENT), 18, 1, book::MOST_ID)?;
+    let listed = frame::same(v.get(tags::SOURCE), b"8");
+    if listed && market(v.get(tags::MARKET)) {
         Some(id)
     } else {
         None
@@ -51,35 +51,35 @@ pub fn instrument(s: &[u8], m: Marks) -> Option<u64>
 
 // 37 on an order-depth channel (0), 346 on a price-depth one.
 #[tactic(auto, unfolding(crate::specs::Values::by_of, tags::specs::Slots::marked, tags::specs::Slots::slot_of))]
-fn by(s: &[u8], depth: u64, m: Marks) -> Option<OrderId>
-    ensures { result ≡ by_of depth (marked s.now m) }
+fn by(v: Values, depth: u64) -> Option<OrderId>
+    ensures { result ≡ by_of depth (by_tag v.entry) }
 {
     if depth == 0 {
-        return orderid::read(tags::value(s, m, tags::ORDER));
+        return orderid::read(v.get(tags::ORDER));
     }
-    let by = digits::ranged(tags::value(s, m, tags::ORDERS), 5, 1, 65535)?;
+    let by = digits::ranged(v.get(tags::ORDERS), 5, 1, 65535)?;
     Some(OrderId { by, more: 0 })
 }
 
 // 272 and 273.
 #[tactic(auto, using(crate::proofs::Texts::moment_fits), unfolding(crate::specs::Values::moment_in, tags::specs::Slots::marked, tags::specs::Slots::slot_of))]
-fn moment(s: &[u8], m: Marks) -> Option<u64>
-    ensures { result ≡ moment_in (marked s.now m) }
+fn moment(v: Values) -> Option<u64>
+    ensures { result ≡ moment_in (by_tag v.entry) }
 {
-    let day = moment::date(tags::value(s, m, tags::DATE))?;
-    let time = moment::time(tags::value(s, m, tags::TIME))?;
+    let day = moment::date(v.get(tags::DATE))?;
+    let time = moment::time(v.get(tags::TIME))?;
     Some(day * moment::SPAN + time)
 }
 
 // The values of a place.
 #[tactic(auto, unfolding(crate::specs::Values::values_of, tags::specs::Slots::marked, tags::specs::Slots::slot_of))]
-pub fn values(s: &[u8], depth: u64, m: Marks) -> Option<Entry>
-    ensures { result ≡ values_of depth (marked s.now m) }
+pub fn values(v: Values, depth: u64) -> Option<Entry>
+    ensures { result ≡ values_of depth (by_tag v.entry) }
 {
-    let price = price::read(tags::value(s, m, tags::PRICE))?;
-    let size = digits::ranged(tags::value(s, m, tags::SIZE), 12, 1, 999999999999)?;
-    let id = by(s, depth, m)?;
-    let moment = moment(s, m)?;
+    let price = price::read(v.get(tags::PRICE))?;
+    let size = digits::ranged(v.get(tags::SIZE), 12, 1, 999999999999)?;
+    let id = by(v, depth)?;
+    let moment = moment(v)?;
     Some(Entry {
         price,
         size,
