@@ -1,5 +1,4 @@
 -- What a reader leaves: of the run what no entry may fill, by a refusal no entry; and what is read may be said in other words. Assumes nothing.
-use Rattle.std.specs.Prelude.{None}
 use mathlib.Core.Path.{◌≡◌, refl, ap, ◌∙◌}
 use mathlib.Core.List.{List}
 use Prim.Native.Nat.{ℕ, ◌*◌, ◌<◌}
@@ -9,12 +8,9 @@ use Rattle.book.specs.declared.Update.{Update}
 use Rattle.message.specs.Message.{refused, told, Told}
 use Rattle.message.specs.declared.Reading.{Reading}
 use Rattle.message.specs.declared.Refusal.{Refusal}
-use Rattle.message.specs.declared.Refusal.TheVariants.{BadFields}
 use Rattle.cells.specs.Cells.{update_words}
 use Rattle.cells.proofs.Stores.{behind_sets}
 use Rattle.cells.proofs.Runs.{no_updates}
-use Rattle.position.specs.declared.Top.{Top}
-use Rattle.group.specs.Listed.{answered}
 use Rattle.group.specs.Reads.{Spared, Reads}
 
 -- ---- the run
@@ -36,8 +32,3 @@ refused_reads why xs ys r e l = rw e (record { reading = refl; entries = no_upda
 pub reads_as : {t u : Told} {r : Reading} {xs ys : List ℕ} → Reads t r xs ys → t ≡ u → Reads u r xs ys
 reads_as h q =
     record { reading = h.reading ∙ ap (λ (t : Told). t.reading) q; entries = h.entries ∙ ap (λ (t : Told). t.entries) q; run = h.run }
-
--- a refusal is an answer without entries
-pub none_answered : (t : Top) → told (refused BadFields) ≡ answered t None
-unfolding answered
-none_answered t = refl

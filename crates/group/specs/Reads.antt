@@ -1,5 +1,7 @@
 -- What a reader leaves: its answer, and the entries in the run that its caller lends.
+use Rattle.std.specs.Prelude.{Option, Some, None}
 use Rattle.std.specs.Prelude.{ℕ, ◌≤◌, ◌≡◌, List, length, get_or}
+use Rattle.book.specs.declared.Update.{Update}
 use Rattle.message.specs.Message.{Told}
 use Rattle.message.specs.declared.Reading.{Reading}
 use Rattle.cells.specs.Runs.{updates_in}
@@ -12,6 +14,17 @@ run_size = 576
 pub record Spared (xs ys : List ℕ) : Type 0 where
   pub size : length ys ≡ length xs
   pub behind : (k : ℕ) → run_size ≤ k → get_or ys k 0 ≡ get_or xs k 0
+
+-- What the reader of a group answers for its updates: how many there are, where no rule is breached.
+abbrev pub how_many : Option (List Update) → Option ℕ
+how_many None = None
+how_many (Some us) = Some (length us)
+
+-- Of a run xs that was lent: how many updates there are, these in the run ys that is left, and what is spared of the run.
+pub record Lists (o : Option (List Update)) (r : Option ℕ) (xs ys : List ℕ) : Type 0 where
+  pub count : r ≡ how_many o
+  pub entries : (us : List Update) → o ≡ Some us → updates_in ys (length us) ≡ us
+  pub run : Spared xs ys
 
 -- Of a run xs that was lent: the reading, its entries in the run ys that is left, and what is spared of the run.
 pub record Reads (t : Told) (r : Reading) (xs ys : List ℕ) : Type 0 where

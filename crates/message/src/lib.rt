@@ -87,6 +87,15 @@ impl From<Answer> for u64 {
     }
 }
 
+// What a message that was read is.
+#[derive(Clone, Copy, PartialEq, Eq)]
+pub enum Kind {
+    // X, 0, f, y, B: it carries a number and a time, an X entries too
+    Numbered,
+    // W
+    Snapshot,
+}
+
 // How the reading ended.
 #[derive(Clone, Copy)]
 pub enum Verdict {

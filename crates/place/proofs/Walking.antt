@@ -178,3 +178,22 @@ module _ (s : List ℕ) (stop named low high : ℕ) (e fs : List Field) where
           → Tells named s (Some r) (cond z (Some (record { inside = e ++ up_to stop fs; rest = onward stop fs })) None) → Tidy s stop named low high e fs r
       go true e w = record { tidy = e; holds = w.holds; rest = w.rest }
       go false e w = absurd w
+
+-- ---- a walk never goes back
+forth_from : (stop named low high at : ℕ) (m : Marks) (fs : List Field) {p : Place} → walk_on stop named low high at m fs ≡ Some p → at ≤ p.at
+unfolding walk_on
+forth_from stop named low high at m [] {p} e =
+    let q : ◌≡◌ {A = Place} (record { at = at; marks = m }) p = cc in omega (arith, ap (λ (r : Place). r.at) q)
+forth_from stop named low high at m (f ∷ fs) {p} e =
+    go (eqb f.tag stop) (strays (slot_of f.tag) named low high (is_some (get_or m.spans (slot_of f.tag) None))) e
+    (λ q. forth_from stop named low high (soh_at at f + 1) (mark_at at f m) fs q)
+  where
+    go : (a b : Bool)
+        → cond a (Some (record { at = at; marks = m })) (cond b None (walk_on stop named low high (soh_at at f + 1) (mark_at at f m) fs)) ≡ Some p
+        → (walk_on stop named low high (soh_at at f + 1) (mark_at at f m) fs ≡ Some p → soh_at at f + 1 ≤ p.at) → at ≤ p.at
+    go true b e i = let q : ◌≡◌ {A = Place} (record { at = at; marks = m }) p = cc in omega (arith, ap (λ (r : Place). r.at) q)
+    go false true e i = let z : ◌≡◌ {A = ℕ} 0 1 = cc in absurd (omega arith)
+    go false false e i = omega (arith, i e)
+
+pub walked_forth : {s : List ℕ} {start stop named low high : ℕ} {m : Marks} {p : Place} → Walk s start stop named low high m (Some p) → start ≤ p.at
+walked_forth w = forth_from _ _ _ _ _ _ _ (sym w.exact)

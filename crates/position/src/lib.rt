@@ -4,10 +4,10 @@
 
 ghost use Rattle.std.specs.Prelude.{◌≡◌, ◌<◌};
 ghost use Rattle.tags.specs.ByTag.{by_tag};
-ghost use Rattle.position.specs.Positions.{next_on, next_after, entry_next};
+ghost use Rattle.position.specs.Positions.{first_of, low_of, next_on, next_after, entry_next};
 
 use entries::Said;
-use message::Verdict;
+use message::Kind;
 use tags::Values;
 
 // The first tag of an entry in X and in W.
@@ -22,18 +22,37 @@ pub const ENTRY_W: usize = tags::SORT;
 
 pub const ENTRY_END: usize = tags::COUNT;
 
-// How a group is read and what stands before it: the first tag of an entry and the first slot that may stand in one,
-// and the reading's numbers.
+// What stands before a group: what the message is, and the reading's numbers.
 #[derive(Clone, Copy)]
 pub struct Top {
-    pub verdict: Verdict,
-    pub first: u64,
-    pub low: usize,
+    pub kind: Kind,
     pub number: u64,
     pub heard: u64,
     pub id: u64,
     pub last: u64,
     pub loops: u64,
+}
+
+impl Top {
+    // The first tag of an entry.
+    pub fn first(&self) -> u64
+        ensures { result ≡ first_of self.now.kind }
+    {
+        match self.kind {
+            Kind::Numbered => FIRST_X,
+            Kind::Snapshot => FIRST_W,
+        }
+    }
+
+    // The first slot that may stand in an entry.
+    pub fn low(&self) -> usize
+        ensures { result ≡ low_of self.now.kind }
+    {
+        match self.kind {
+            Kind::Numbered => ENTRY_X,
+            Kind::Snapshot => ENTRY_W,
+        }
+    }
 }
 
 // The next position of each side in a W.
@@ -75,15 +94,15 @@ impl Next {
 }
 
 // What an entry says; in a W it must stand at the next position of its side.
-#[tactic(auto, unfolding(crate::specs::Positions::entry_next, crate::specs::Positions::entry_in, crate::specs::Positions::at_next))]
-pub fn entry(v: Values, depth: u64, t: Top, next: Next) -> Said
-    ensures { result ≡ entry_next depth t next (by_tag v.entry) }
+#[tactic(auto, using(crate::proofs::Tops::numbered_said), unfolding(crate::specs::Positions::entry_next, crate::specs::Positions::entry_in, crate::specs::Positions::at_next))]
+pub fn entry(v: Values, depth: u64, t: &Top, next: Next) -> Said
+    ensures { result ≡ entry_next depth t.now next (by_tag v.entry) }
 {
-    if t.first == FIRST_X {
-        return entries::in_x(v, depth);
-    }
-    match entries::in_w(v, depth, t.id)? {
-        Some(u) if u.place != next.on(u.what) => None,
-        said => Some(said),
+    match t.kind {
+        Kind::Numbered => entries::in_x(v, depth),
+        Kind::Snapshot => match entries::in_w(v, depth, t.id)? {
+            Some(u) if u.place != next.on(u.what) => None,
+            said => Some(said),
+        },
     }
 }
