@@ -5,51 +5,51 @@ use mathlib.Core.List.{List, [], ◌∷◌}
 use mathlib.Core.Bool.{Bool, true, false, cond, ◌&&◌}
 use Prim.Native.Nat.{ℕ, ◌+◌, ◌≤◌, ◌<◌}
 use native.Mathlib.Omega.{arith}
-use borrow.Author.Tests.{eqb-true, eq-eqb, ne_eqb, leb-true}
+use borrow.Author.Tests.{eqb-true, ne_eqb, leb-true, leb-false}
 use lib.Dec.{eqb, leb}
 use lib.ListN.{length}
 use Rattle.digits.specs.Digits.{ranged_of, whole_of, digits_of}
 use Rattle.digits.proofs.Width.{both}
 use Rattle.book.specs.declared.Update.{Update}
-use Rattle.message.specs.Message.{Head, Message, numbered, snapshot, refused, told}
-use Rattle.message.specs.declared.Refusal.TheVariants.{BadFields}
-use Rattle.message.specs.declared.Verdict.TheVariants.{Numbered, Snapshot}
-use Rattle.chain.specs.Fields.{Field}
+use Rattle.message.specs.Message.{Head, Message, numbered, snapshot}
+use Rattle.message.specs.declared.Kind.{Kind}
+use Rattle.message.specs.declared.Kind.TheVariants.{Numbered, Snapshot}
+use Rattle.chain.specs.Fields.{Field, field}
 use Rattle.chain.specs.Places.{step, part, field_at, left}
-use Rattle.chain.proofs.Walk.{left_on, left_no, walked, all_tagged}
+use Rattle.chain.proofs.Walk.{left_on, left_no, found, walked, all_tagged}
 use Rattle.tags.specs.Tags.{named_tags, other_tags, head_x, head_w, entry_x, entry_w, has, tidy, all_tidy, up_to, past, onward, parts, lookup}
 use Rattle.tags.specs.Slots.{slot_of, below, between, marked, Holds}
 use Rattle.tags.specs.declared.Marks.{Marks}
-use Rattle.values.specs.Values.{◌>>=◌, need, Values, number, seq_at, heard_at, instrument_at, last_at, loops_at}
+use Rattle.values.specs.Values.{◌>>=◌, need, Values, seq_at, heard_at, instrument_at, last_at, loops_at}
 use Rattle.entries.specs.Entries.{entry_in_x, entry_in_w}
 use Rattle.entries.proofs.Same.{instrument_same}
-use Rattle.position.specs.Positions.{firsts, entry_in, Fair}
+use Rattle.position.specs.Positions.{first_of, low_of, firsts, entry_in}
 use Rattle.group.specs.Groups.{group_of, each, running}
-use Rattle.lead.specs.Messages.{other_of, changes_of, head_of, snapshot_of, or_bad_fields, typed_as}
-use Rattle.group.specs.Listed.{ordered, grouped, answered}
-use Rattle.lead.specs.Leads.{bare_of, top_x, top_w, counted}
+use Rattle.lead.specs.Messages.{other_of, changes_of, head_of, snapshot_of}
+use Rattle.group.specs.Listed.{ordered, grouped}
+use Rattle.lead.specs.Leads.{top_x, top_w, top_by, head_end, body_by, message_of, counted, group_said}
 use Rattle.position.specs.declared.Top.{Top}
 
 -- ---- from 268 on
 counted_by : (depth : ℕ) (t : Top) (n : Option ℕ) (gs : List Field)
-    → (number n >>= λ k.
-    need (eqb (length (parts t.first gs)) k && (tidy named_tags [] (up_to t.first gs) && all_tidy named_tags (between t.low 20) (parts t.first gs)))
-    (Some (parts t.first gs)))
+    → (n >>= λ k.
+    need (eqb (length (parts (first_of t.kind) gs)) k && (tidy named_tags [] (up_to (first_of t.kind) gs) && all_tidy named_tags (between (low_of t.kind) 20) (parts (first_of t.kind) gs)))
+    (Some (parts (first_of t.kind) gs)))
     >>= (λ es. each (entry_in depth t) es >>= λ us. need (ordered t firsts us) (Some us))
-    ≡ number n >>= λ k. grouped depth t k gs
+    ≡ n >>= λ k. grouped depth t k gs
 unfolding grouped
 counted_by depth t None gs = refl
 counted_by depth t (Some k) gs =
-    go (eqb (length (parts t.first gs)) k && (tidy named_tags [] (up_to t.first gs) && all_tidy named_tags (between t.low 20) (parts t.first gs)))
+    go (eqb (length (parts (first_of t.kind) gs)) k && (tidy named_tags [] (up_to (first_of t.kind) gs) && all_tidy named_tags (between (low_of t.kind) 20) (parts (first_of t.kind) gs)))
   where
     go : (z : Bool)
-        → need z (Some (parts t.first gs)) >>= (λ es. each (entry_in depth t) es >>= λ us. need (ordered t firsts us) (Some us))
-        ≡ need z (each (entry_in depth t) (parts t.first gs) >>= λ us. need (ordered t firsts us) (Some us))
+        → need z (Some (parts (first_of t.kind) gs)) >>= (λ es. each (entry_in depth t) es >>= λ us. need (ordered t firsts us) (Some us))
+        ≡ need z (each (entry_in depth t) (parts (first_of t.kind) gs) >>= λ us. need (ordered t firsts us) (Some us))
     go true = refl
     go false = refl
 
 -- a group found by its 268 is the group from there on
-no_count : number (ranged_of 2 0 64 []) ≡ None
+no_count : ranged_of 2 0 64 [] ≡ None
 unfolding ranged_of whole_of digits_of
 no_count = refl
 
@@ -91,42 +91,40 @@ module _ (depth : ℕ) (t : Top) where
   unfoldable pub listing : Option (List (List Field)) → Option (List Update)
   listing o = o >>= λ es. each (entry_in depth t) es >>= λ us. need (ordered t firsts us) (Some us)
 
-  group_at : (gs : List Field) → headed gs ≡ true → listing (group_of t.first (between t.low 20) gs) ≡ counted depth t gs
+  group_at : (gs : List Field) → headed gs ≡ true → listing (group_of (first_of t.kind) (between (low_of t.kind) 20) gs) ≡ counted depth t gs
   unfolding listing headed group_of counted lookup past
   group_at [] h = rw no_count
   group_at (f ∷ gs) h = rw h (counted_by depth t (ranged_of 2 0 64 f.text) gs)
 
-  group_onward : (fs : List Field) → group_of t.first (between t.low 20) fs ≡ group_of t.first (between t.low 20) (onward 268 fs)
+  group_onward : (fs : List Field) → group_of (first_of t.kind) (between (low_of t.kind) 20) fs ≡ group_of (first_of t.kind) (between (low_of t.kind) 20) (onward 268 fs)
   unfolding group_of
   group_onward fs = rw (lookup_onward fs, past_onward fs)
 
-  pub group_from : (fs : List Field) → listing (group_of t.first (between t.low 20) fs) ≡ counted depth t (onward 268 fs)
+  pub group_from : (fs : List Field) → listing (group_of (first_of t.kind) (between (low_of t.kind) 20) fs) ≡ counted depth t (onward 268 fs)
   group_from fs = ap listing (group_onward fs) ∙ group_at (onward 268 fs) (onward_headed fs)
 
 -- the group by the field at a place
 module _ (s : List ℕ) (start depth : ℕ) (t : Top) where
-  pub no_group : length s ≤ start → counted depth t (left s start) ≡ None
+  -- no field: nothing is left, or bytes that are none, and no bytes are no number
+  pub no_group : field_at s start ≡ None → counted depth t (left s start) ≡ None
   unfolding counted
-  no_group l = rw (walked s start l)
+  no_group e = go (leb (length s) start) refl
+    where
+      go : (z : Bool) → leb (length s) start ≡ z → counted depth t (left s start) ≡ None
+      go true q = rw (walked s start (leb-true (length s) start q))
+      go false q = rw (left_no s start (leb-false (length s) start q) e, no_count)
 
-  -- bytes that are no field: no bytes are no number
-  pub torn_count : start < length s → field_at s start ≡ None → counted depth t (left s start) ≡ None
-  unfolding counted
-  torn_count l e = rw (left_no s start l e, no_count)
+  module _ (tag from to : ℕ) (step : field_at s start ≡ Some (step tag from to)) where
+    on : left s start ≡ field tag (part from to s) ∷ left s (to + 1)
+    on = let p = found s start step in left_on s start (omega (arith, p.low, p.some, p.high)) step
 
-  module _ (tag from to : ℕ) (l : start < length s) (step : field_at s start ≡ Some (step tag from to)) where
     pub bad_count : ranged_of 2 0 64 (part from to s) ≡ None → counted depth t (left s start) ≡ None
     unfolding counted
-    bad_count e = rw (left_on s start l step, e)
+    bad_count e = rw (on, e)
 
     pub good_count : (n : ℕ) → ranged_of 2 0 64 (part from to s) ≡ Some n → counted depth t (left s start) ≡ grouped depth t n (left s (to + 1))
     unfolding counted
-    good_count n e = rw (left_on s start l step, e)
-
--- ---- refusals
-pub refused_by_lem : (o : Option Message) → o ≡ None → told (refused BadFields) ≡ told (or_bad_fields o)
-unfolding or_bad_fields
-refused_by_lem o q = rw q
+    good_count n e = rw (on, e)
 
 not_read : (z : Bool) {A : Type 0} (o : Option A) → o ≡ None → need z o ≡ None
 not_read true o q = q
@@ -134,14 +132,14 @@ not_read false o q = refl
 
 -- ---- what stands before 268 in an X
 abbrev x_top : ℕ → ℕ → Top
-x_top n at = record { verdict = Numbered; first = 279; low = 8; number = n; heard = at; id = 0; last = 0; loops = 0 }
+x_top n at = record { kind = Numbered; number = n; heard = at; id = 0; last = 0; loops = 0 }
 
 pub record TopX (v : Values) (t : Top) : Type 0 where
   pub n : ℕ
   pub at : ℕ
   pub seq : seq_at v ≡ Some n
   pub heard : heard_at v ≡ Some at
-  pub same : t ≡ record { verdict = Numbered; first = 279; low = 8; number = n; heard = at; id = 0; last = 0; loops = 0 }
+  pub same : t ≡ record { kind = Numbered; number = n; heard = at; id = 0; last = 0; loops = 0 }
 
 pub is_top_x : (v : Values) {t : Top} → top_x v ≡ Some t → TopX v t
 unfolding top_x
@@ -160,10 +158,6 @@ x_none {A} v k = go (seq_at v) (heard_at v)
     go None b e = refl
     go (Some n) None e = refl
     go (Some n) (Some at) e = let z : ◌≡◌ {A = ℕ} 0 1 = cc in absurd (omega arith)
-
-pub fair_x : (v : Values) (t : Top) → TopX v t → Fair t
-unfolding has between
-fair_x v t p = rw p.same (refl, refl)
 
 -- marks and fields say the same of it
 pub top_x_same : (named : ℕ) (s : List ℕ) (m : Marks) (fs : List Field) → 6 ≤ named → Holds named s m fs → top_x (marked s m) ≡ top_x (lookup fs)
@@ -187,53 +181,30 @@ module _ (depth : ℕ) (fs : List Field) where
       (x_none v (λ n at. group_of 279 entry_x fs >>= λ es. each (entry_in_x depth) es >>= λ us. Some (numbered n at us)) h)
 
   x_answer : (n at : ℕ) (o : Option (List (List Field)))
-      → told (or_bad_fields (o >>= λ es. each (entry_in_x depth) es >>= λ us. Some (numbered n at us))) ≡ answered (x_top n at) (listing depth (x_top n at) o)
-  unfolding or_bad_fields answered listing entry_in ordered told
+      → (o >>= λ es. each (entry_in_x depth) es >>= λ us. Some (numbered n at us)) ≡ listing depth (x_top n at) o >>= λ us. Some (numbered n at us)
+  unfolding listing entry_in ordered
   x_answer n at None = refl
   x_answer n at (Some es) = go (each (entry_in_x depth) es)
     where
-      go : (r : Option (List Update)) → told (or_bad_fields (r >>= λ us. Some (numbered n at us))) ≡ answered (x_top n at) (r >>= λ us. Some us)
+      go : (r : Option (List Update)) → (r >>= λ us. Some (numbered n at us)) ≡ (r >>= λ us. Some us) >>= λ us. Some (numbered n at us)
       go None = refl
       go (Some us) = refl
 
-  x_told : tidy (below 21) (between 4 6) (up_to 268 fs) ≡ true → (t : Top) → TopX v t
-      → told (or_bad_fields (changes_of depth fs)) ≡ answered t (counted depth t (onward 268 fs))
+  x_is : tidy (below 21) (between 4 6) (up_to 268 fs) ≡ true → (t : Top) → TopX v t → group_said depth t (onward 268 fs) ≡ changes_of depth fs
   unfolding changes_of below between
-  x_told h t p =
+  x_is h t p =
       let q = p.same in
-      rw (h, p.seq, p.heard, q) (x_answer p.n p.at (group_of 279 entry_x fs) ∙ ap (answered (x_top p.n p.at)) (group_from depth (x_top p.n p.at) fs))
-
-  pub x_is : tidy (below 21) (between 4 6) (up_to 268 fs) ≡ true → (t : Top) → TopX v t → (rest : List Field) → rest ≡ onward 268 fs
-      → answered t (counted depth t rest) ≡ told (or_bad_fields (changes_of depth fs))
-  x_is h t p rest q = ap (λ (gs : List Field). answered t (counted depth t gs)) q ∙ sym (x_told h t p)
+      rw (h, p.seq, p.heard, q)
+      (sym (x_answer p.n p.at (group_of 279 entry_x fs) ∙ ap (λ (o : Option (List Update)). o >>= λ us. Some (numbered p.n p.at us)) (group_from depth (x_top p.n p.at) fs)))
 
 -- ---- what stands before 268 in a W
 abbrev w_top : Head → Top
-w_top h =
-    record {
-      verdict = Snapshot;
-      first = 269;
-      low = 12;
-      number = h.number;
-      heard = h.heard;
-      id = h.id;
-      last = h.last;
-      loops = h.loops;
-    }
+w_top h = record { kind = Snapshot; number = h.number; heard = h.heard; id = h.id; last = h.last; loops = h.loops }
 
 pub record TopW (v : Values) (t : Top) : Type 0 where
   pub head : Head
   pub read : head_of v ≡ Some head
-  pub same : t ≡ record {
-    verdict = Snapshot;
-    first = 269;
-    low = 12;
-    number = head.number;
-    heard = head.heard;
-    id = head.id;
-    last = head.last;
-    loops = head.loops;
-  }
+  pub same : t ≡ record { kind = Snapshot; number = head.number; heard = head.heard; id = head.id; last = head.last; loops = head.loops }
 
 -- the two ways to read it
 heads : (v : Values) (a b c d e : Option ℕ) → seq_at v ≡ a → heard_at v ≡ b → instrument_at v ≡ c → last_at v ≡ d → loops_at v ≡ e
@@ -263,10 +234,6 @@ no_head v e = go (head_of v) (sym (top_head v) ∙ e)
     go None h = refl
     go (Some h) k = let z : ◌≡◌ {A = ℕ} 0 1 = cc in absurd (omega arith)
 
-pub fair_w : (v : Values) (t : Top) → TopW v t → Fair t
-unfolding has between
-fair_w v t p = rw p.same (refl, refl)
-
 pub top_w_same : (s : List ℕ) (m : Marks) (fs : List Field) → Holds 21 s m fs → top_w (marked s m) ≡ top_w (lookup fs)
 unfolding top_w slot_of
 top_w_same s m fs h =
@@ -291,30 +258,56 @@ module _ (depth : ℕ) (fs : List Field) where
   w_no_top h = rw (no_head w h) (not_read (tidy named_tags head_w (up_to 268 fs)) None refl)
 
   w_answer : (h : Head) (o : Option (List (List Field)))
-      → told (or_bad_fields (o >>= λ es. each (entry_in_w depth h.id) es >>= λ us. need (running firsts us) (Some (snapshot h us))))
-      ≡ answered (w_top h) (listing depth (w_top h) o)
-  unfolding or_bad_fields answered listing entry_in ordered told
+      → (o >>= λ es. each (entry_in_w depth h.id) es >>= λ us. need (running firsts us) (Some (snapshot h us)))
+      ≡ listing depth (w_top h) o >>= λ us. Some (snapshot h us)
+  unfolding listing entry_in ordered
   w_answer h None = refl
   w_answer h (Some es) = go (each (entry_in_w depth h.id) es)
     where
-      pick : (z : Bool) (us : List Update) → told (or_bad_fields (need z (Some (snapshot h us)))) ≡ answered (w_top h) (need z (Some us))
+      pick : (z : Bool) (us : List Update) → need z (Some (snapshot h us)) ≡ need z (Some us) >>= λ us. Some (snapshot h us)
       pick true us = refl
       pick false us = refl
 
-      go : (r : Option (List Update)) → told (or_bad_fields (r >>= λ us. need (running firsts us) (Some (snapshot h us)))) ≡ answered (w_top h) (r >>= λ us. need (running firsts us) (Some us))
+      go : (r : Option (List Update))
+          → (r >>= λ us. need (running firsts us) (Some (snapshot h us))) ≡ (r >>= λ us. need (running firsts us) (Some us)) >>= λ us. Some (snapshot h us)
       go None = refl
       go (Some us) = pick (running firsts us) us
 
-  w_told : tidy (below 21) (between 4 11) (up_to 268 fs) ≡ true → (t : Top) → TopW w t
-      → told (or_bad_fields (snapshot_of depth fs)) ≡ answered t (counted depth t (onward 268 fs))
+  w_is : tidy (below 21) (between 4 11) (up_to 268 fs) ≡ true → (t : Top) → TopW w t → group_said depth t (onward 268 fs) ≡ snapshot_of depth fs
   unfolding snapshot_of below between
-  w_told e t p =
+  w_is e t p =
       let q = p.same in
-      rw (e, p.read, q) (w_answer p.head (group_of 269 entry_w fs) ∙ ap (answered (w_top p.head)) (group_from depth (w_top p.head) fs))
+      rw (e, p.read, q)
+      (sym (w_answer p.head (group_of 269 entry_w fs) ∙ ap (λ (o : Option (List Update)). o >>= λ us. Some (snapshot p.head us)) (group_from depth (w_top p.head) fs)))
 
-  pub w_is : tidy (below 21) (between 4 11) (up_to 268 fs) ≡ true → (t : Top) → TopW w t → (rest : List Field) → rest ≡ onward 268 fs
-      → answered t (counted depth t rest) ≡ told (or_bad_fields (snapshot_of depth fs))
-  w_is h t p rest q = ap (λ (gs : List Field). answered t (counted depth t gs)) q ∙ sym (w_told h t p)
+-- ---- X and W
+module _ (k : Kind) (depth : ℕ) (fs : List Field) where
+  pub untidy_body : tidy (below 21) (between 4 (head_end k)) (up_to 268 fs) ≡ false → body_by k depth fs ≡ None
+  untidy_body = go k
+    where
+      go : (k : Kind) → tidy (below 21) (between 4 (head_end k)) (up_to 268 fs) ≡ false → body_by k depth fs ≡ None
+      go Numbered h = x_untidy depth fs h
+      go Snapshot h = w_untidy depth fs h
+
+  pub topless_body : top_by k (lookup (up_to 268 fs)) ≡ None → body_by k depth fs ≡ None
+  topless_body = go k
+    where
+      go : (k : Kind) → top_by k (lookup (up_to 268 fs)) ≡ None → body_by k depth fs ≡ None
+      go Numbered h = x_no_top depth fs h
+      go Snapshot h = w_no_top depth fs h
+
+  pub topped_body : tidy (below 21) (between 4 (head_end k)) (up_to 268 fs) ≡ true → (t : Top) → top_by k (lookup (up_to 268 fs)) ≡ Some t
+      → group_said depth t (onward 268 fs) ≡ body_by k depth fs
+  topped_body = go k
+    where
+      go : (k : Kind) → tidy (below 21) (between 4 (head_end k)) (up_to 268 fs) ≡ true → (t : Top) → top_by k (lookup (up_to 268 fs)) ≡ Some t
+          → group_said depth t (onward 268 fs) ≡ body_by k depth fs
+      go Numbered h t e = x_is depth fs h t (is_top_x (lookup (up_to 268 fs)) e)
+      go Snapshot h t e = w_is depth fs h t (is_top_w (lookup (up_to 268 fs)) e)
+
+pub top_same : (k : Kind) (s : List ℕ) (m : Marks) (fs : List Field) → Holds 21 s m fs → top_by k (marked s m) ≡ top_by k (lookup fs)
+top_same Numbered s m fs h = top_x_same 21 s m fs (omega arith) h
+top_same Snapshot s m fs h = top_w_same s m fs h
 
 -- ---- the other types
 no_zero : (fs : List Field) → all_tagged fs ≡ true → up_to 0 fs ≡ fs
@@ -372,22 +365,8 @@ module _ (fs : List Field) where
       (x_none y (λ n at. Some (numbered n at [])) h)
 
   pub o_is : all_tagged fs ≡ true → tidy (below 6) (between 4 6) (up_to 268 fs) ≡ true → tidy (below 6) (between 0 0) (up_to 0 (onward 268 fs)) ≡ true
-      → (t : Top) → TopX y t → bare_of Numbered t.number t.heard ≡ told (or_bad_fields (other_of fs))
-  unfolding other_of or_bad_fields told bare_of below between
+      → (t : Top) → TopX y t → other_of fs ≡ Some (message_of t [])
+  unfolding other_of below between
   o_is f h k t p =
       let q = p.same in
       rw (h, sym (rest_tidy fs f) ∙ k, p.seq, p.heard, q)
-
--- ---- by the type
-module _ (depth kind : ℕ) (fs : List Field) where
-  pub type_x : kind ≡ 88 → told (or_bad_fields (typed_as depth kind fs)) ≡ told (or_bad_fields (changes_of depth fs))
-  unfolding typed_as
-  type_x q = rw (eq-eqb kind 88 q)
-
-  pub type_w : (kind ≡ 88 → ⊥) → kind ≡ 87 → told (or_bad_fields (typed_as depth kind fs)) ≡ told (or_bad_fields (snapshot_of depth fs))
-  unfolding typed_as
-  type_w n q = rw (ne_eqb kind 88 n, eq-eqb kind 87 q)
-
-  pub type_other : (kind ≡ 88 → ⊥) → (kind ≡ 87 → ⊥) → told (or_bad_fields (typed_as depth kind fs)) ≡ told (or_bad_fields (other_of fs))
-  unfolding typed_as
-  type_other n m = rw (ne_eqb kind 88 n, ne_eqb kind 87 m)

@@ -1,3 +1,3 @@
 pub mod Leading
 pub mod Bodies
-pub mod Led
+pub mod Ways

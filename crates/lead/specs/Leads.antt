@@ -2,30 +2,24 @@
 use Rattle.std.specs.Prelude.{Option, Some, None}
 use Rattle.std.specs.Prelude.{ℕ, ◌≤◌, ◌≡◌, List, [], ◌∷◌}
 use Rattle.book.specs.declared.Update.{Update}
-use Rattle.message.specs.Message.{Told}
-use Rattle.message.specs.declared.Verdict.{Verdict}
-use Rattle.message.specs.declared.Verdict.TheVariants.{Numbered, Snapshot}
+use Rattle.message.specs.Message.{Message, numbered, snapshot}
+use Rattle.message.specs.declared.Kind.{Kind}
+use Rattle.message.specs.declared.Kind.TheVariants.{Numbered, Snapshot}
 use Rattle.digits.specs.Digits.{ranged_of}
 use Rattle.chain.specs.Fields.{Field}
 use Rattle.chain.specs.Places.{left}
-use Rattle.values.specs.Values.{◌>>=◌, Values, number, seq_at, heard_at, instrument_at, last_at, loops_at}
-use Rattle.position.specs.Positions.{Fair}
-use Rattle.group.specs.Listed.{grouped, answered}
+use Rattle.values.specs.Values.{◌>>=◌, Values, seq_at, heard_at, instrument_at, last_at, loops_at}
+use Rattle.group.specs.Listed.{grouped}
 use Rattle.position.specs.declared.Top.{Top}
+use Rattle.lead.specs.Messages.{changes_of, snapshot_of}
 use Rattle.lead.specs.declared.Lead.{Lead}
-use Rattle.lead.specs.declared.Topped.{Topped}
-
--- What is answered without entries.
-unfoldable pub bare_of : Verdict → ℕ → ℕ → Told
-bare_of verdict n heard =
-    record { reading = record { verdict = verdict; number = n; heard = heard; id = 0; last = 0; loops = 0; count = 0 }; entries = [] }
 
 -- What stands before the group of an X, and of a W.
 unfoldable pub top_x : Values → Option Top
 top_x v =
     seq_at v >>= λ n.
     heard_at v >>= λ heard.
-    Some (record { verdict = Numbered; first = 279; low = 8; number = n; heard = heard; id = 0; last = 0; loops = 0 })
+    Some (record { kind = Numbered; number = n; heard = heard; id = 0; last = 0; loops = 0 })
 
 unfoldable pub top_w : Values → Option Top
 top_w v =
@@ -33,20 +27,51 @@ top_w v =
     instrument_at v >>= λ id.
     last_at v >>= λ last.
     loops_at v >>= λ loops.
-    Some (record { verdict = Snapshot; first = 269; low = 12; number = t.number; heard = t.heard; id = id; last = last; loops = loops })
+    Some (record { kind = Snapshot; number = t.number; heard = t.heard; id = id; last = last; loops = loops })
 
-unfoldable pub topped : Option Top → Topped
-topped None = Topped.No
-topped (Some t) = Topped.Is t
+abbrev pub top_by : Kind → Values → Option Top
+top_by Numbered v = top_x v
+top_by Snapshot v = top_w v
+
+-- The slot up to which tags may stand there.
+abbrev pub head_end : Kind → ℕ
+head_end Numbered = 6
+head_end Snapshot = 11
+
+-- What the fields between 35 and 10 of an X say, and of a W.
+abbrev pub body_by : Kind → ℕ → List Field → Option Message
+body_by Numbered depth fs = changes_of depth fs
+body_by Snapshot depth fs = snapshot_of depth fs
+
+-- The message that what stands before its entries makes with them.
+abbrev pub message_by : Kind → Top → List Update → Message
+message_by Numbered t us = numbered t.number t.heard us
+message_by Snapshot t us =
+    snapshot (record { number = t.number; heard = t.heard; id = t.id; last = t.last; loops = t.loops }) us
+
+abbrev pub message_of : Top → List Update → Message
+message_of t us = message_by t.kind t us
 
 -- The group from 268 on.
 unfoldable pub counted : ℕ → Top → List Field → Option (List Update)
 counted depth t [] = None
-counted depth t (f ∷ fs) = number (ranged_of 2 0 64 f.text) >>= λ n. grouped depth t n fs
+counted depth t (f ∷ fs) = ranged_of 2 0 64 f.text >>= λ n. grouped depth t n fs
 
--- What leads to the entries of fields is e: 268 says at most 64, and what they give, on a channel of each depth kind, is f.
-pub record Leads (s : List ℕ) (l e : Lead) (f : ℕ → Told) : Type 0 where
+abbrev pub group_said : ℕ → Top → List Field → Option Message
+group_said depth t fs = counted depth t fs >>= λ us. Some (message_of t us)
+
+-- The message that is led to, on a channel of a depth kind.
+abbrev pub led : ℕ → List ℕ → Option Lead → Option Message
+led depth s None = None
+led depth s (Some l) = grouped depth l.top l.count (left s l.at) >>= λ us. Some (message_of l.top us)
+
+-- 268 says at most 64.
+abbrev pub Few : Option Lead → Type 0
+Few None = Unit {0}
+Few (Some l) = l.count ≤ 64
+
+-- What leads to the entries of fields is e, and the message that it leads to, on a channel of each depth kind, is f.
+pub record Leads (s : List ℕ) (l e : Option Lead) (f : ℕ → Option Message) : Type 0 where
   pub exact : l ≡ e
-  pub fair : Fair l.top
-  pub few : l.count ≤ 64
-  pub says : (depth : ℕ) → answered l.top (grouped depth l.top l.count (left s l.at)) ≡ f depth
+  pub few : Few l
+  pub says : (depth : ℕ) → led depth s l ≡ f depth

@@ -3,20 +3,16 @@
 #![tactic(auto)]
 
 ghost use Rattle.std.specs.Prelude.{◌≡◌};
-ghost use Rattle.message.specs.Message.{refused, told};
-ghost use Rattle.message.specs.declared.Refusal.TheVariants.{BadFields};
 ghost use Rattle.chain.specs.Places.{left};
-ghost use Rattle.tags.specs.Slots.{marked};
-ghost use Rattle.position.specs.Positions.{Fair};
-ghost use Rattle.group.specs.Listed.{answered};
-ghost use Rattle.lead.specs.Messages.{other_of, changes_of, snapshot_of, or_bad_fields, typed_as};
-ghost use Rattle.lead.specs.Leads.{bare_of, top_x, top_w, topped, counted, Leads};
-ghost use Rattle.lead.specs.LeadOf.{alone_lead, breach_lead, counted_lead, changes_lead, snapshot_lead, other_lead, lead_of};
+ghost use Rattle.tags.specs.ByTag.{by_tag};
+ghost use Rattle.lead.specs.Messages.{other_of, typed_as};
+ghost use Rattle.lead.specs.Leads.{top_x, top_w, top_by, head_end, body_by, group_said, Leads};
+ghost use Rattle.lead.specs.LeadOf.{counted_lead, group_lead, other_lead, lead_of};
 
 use chain::Step;
-use message::{Refusal, Verdict};
+use message::Kind;
 use position::Top;
-use tags::Marks;
+use tags::Values;
 
 // The tag that ends what stands before a group; no field has the tag 0.
 const COUNT_TAG: u64 = 268;
@@ -39,31 +35,15 @@ pub struct Lead {
     pub count: u64,
 }
 
-#[derive(Clone, Copy)]
-pub enum Topped {
-    Is(Top),
-    No,
-}
-
 // What X and the other types need before 268.
-fn top_x(s: &[u8], m: Marks) -> Topped
-    ensures { result ≡ topped (top_x (marked s.now m)) }
+#[tactic(auto, unfolding(crate::specs::Leads::top_x, tags::specs::Slots::marked, tags::specs::Slots::slot_of))]
+fn top_x(v: Values) -> Option<Top>
+    ensures { result ≡ top_x (by_tag v.entry) }
 {
-    let Some(number) = digits::ranged(
-        tags::value(s, m, tags::SEQ),
-        10,
-        1,
-        message::MOST_NUMBER,
-    ) else {
-        return Topped::No;
-    };
-    let Some(heard) = moment::moment(tags::value(s, m, tags::SENT)) else {
-        return Topped::No;
-    };
-    Topped::Is(Top {
-        verdict: Verdict::Numbered,
-        first: position::FIRST_X,
-        low: position::ENTRY_X,
+    let number = digits::ranged(v.get(tags::SEQ), 10, 1, message::MOST_NUMBER)?;
+    let heard = moment::moment(v.get(tags::SENT))?;
+    Some(Top {
+        kind: Kind::Numbered,
         number,
         heard,
         id: 0,
@@ -73,147 +53,97 @@ fn top_x(s: &[u8], m: Marks) -> Topped
 }
 
 // What W needs there.
-fn top_w(s: &[u8], m: Marks) -> Topped
-    ensures { result ≡ topped (top_w (marked s.now m)) }
+#[tactic(auto, unfolding(crate::specs::Leads::top_w, tags::specs::Slots::marked, tags::specs::Slots::slot_of))]
+fn top_w(v: Values) -> Option<Top>
+    ensures { result ≡ top_w (by_tag v.entry) }
 {
-    let Topped::Is(t) = top_x(s, m) else {
-        return Topped::No;
-    };
-    let Some(id) = values::instrument(s, m) else {
-        return Topped::No;
-    };
-    let Some(last) = digits::ranged(
-        tags::value(s, m, tags::LAST),
-        10,
-        0,
-        message::MOST_NUMBER,
-    ) else {
-        return Topped::No;
-    };
-    let Some(loops) = digits::ranged(
-        tags::value(s, m, tags::LOOPS),
-        10,
-        1,
-        message::MOST_NUMBER,
-    ) else {
-        return Topped::No;
-    };
-    Topped::Is(Top {
-        verdict: Verdict::Snapshot,
-        first: position::FIRST_W,
-        low: position::ENTRY_W,
-        number: t.number,
-        heard: t.heard,
+    let top = top_x(v)?;
+    let id = values::instrument(v)?;
+    let last = digits::ranged(v.get(tags::LAST), 10, 0, message::MOST_NUMBER)?;
+    let loops = digits::ranged(v.get(tags::LOOPS), 10, 1, message::MOST_NUMBER)?;
+    Some(Top {
+        kind: Kind::Snapshot,
         id,
         last,
         loops,
+        ..top
     })
 }
 
-// A message without a group.
-fn alone(s: &[u8], verdict: Verdict, number: u64, heard: u64) -> Lead
-    ensures { Leads s.now result (alone_lead s.now verdict number heard) (λ depth. bare_of verdict number heard) }
+// What X or W needs there.
+fn top(v: Values, kind: Kind) -> Option<Top>
+    ensures { result ≡ top_by kind (by_tag v.entry) }
 {
-    let top = Top {
-        verdict,
-        first: position::FIRST_X,
-        low: position::ENTRY_X,
-        number,
-        heard,
-        id: 0,
-        last: 0,
-        loops: 0,
-    };
-    Lead {
-        top,
-        at: s.len(),
-        count: 0,
+    match kind {
+        Kind::Numbered => top_x(v),
+        Kind::Snapshot => top_w(v),
     }
 }
 
-// A breach under "Fields".
-fn breach(s: &[u8]) -> Lead
-    ensures { Leads s.now result (breach_lead s.now) (λ depth. told (refused BadFields)) }
+// The slot up to which tags may stand there.
+fn head_end(kind: Kind) -> usize
+    ensures { result ≡ head_end kind }
 {
-    alone(s, Verdict::Refused(Refusal::BadFields), 0, 0)
+    match kind {
+        Kind::Numbered => HEAD_X_END,
+        Kind::Snapshot => HEAD_W_END,
+    }
 }
 
 // The group from 268 on.
-fn counted(s: &[u8], start: usize, t: Top) -> Lead
-    requires { Fair t }
-    ensures { Leads s.now result (counted_lead s.now start t) (λ depth. answered t (counted depth t (left s.now start))) }
+fn counted(s: &[u8], start: usize, top: Top) -> Option<Lead>
+    ensures { Leads s.now result (counted_lead s.now start top) (λ depth. group_said depth top (left s.now start)) }
 {
-    if s.len() <= start {
-        return breach(s);
-    }
-    let Some(Step { tag: _, from, to }) = chain::field(s, start) else {
-        return breach(s);
-    };
-    let Some(count) = digits::ranged(&s[from..to], 2, 0, 64) else {
-        return breach(s);
-    };
-    let at = to + 1;
-    Lead { top: t, at, count }
+    let Step { tag: _, from, to } = chain::field(s, start)?;
+    let count = digits::ranged(&s[from..to], 2, 0, 64)?;
+    Some(Lead {
+        top,
+        at: to + 1,
+        count,
+    })
 }
 
-// X.
-fn changes(s: &[u8]) -> Lead
-    ensures { Leads s.now result (changes_lead s.now) (λ depth. told (or_bad_fields (changes_of depth (left s.now 0)))) }
+// X and W.
+fn with_group(s: &[u8], kind: Kind) -> Option<Lead>
+    ensures { Leads s.now result (group_lead kind s.now) (λ depth. body_by kind depth (left s.now 0)) }
 {
-    let p = place::walk(s, 0, COUNT_TAG, tags::NAMED, HEAD, HEAD_X_END);
-    if !p.ok {
-        return breach(s);
-    }
-    let m = p.marks;
-    let Topped::Is(t) = top_x(s, m) else {
-        return breach(s);
+    let mut marks = tags::no_marks();
+    let at = place::walk(s, 0, &mut marks, COUNT_TAG, tags::NAMED, HEAD, head_end(kind))?;
+    let head = Values {
+        text: s,
+        marks: &marks,
     };
-    counted(s, p.at, t)
-}
-
-// W.
-fn snapshot(s: &[u8]) -> Lead
-    ensures { Leads s.now result (snapshot_lead s.now) (λ depth. told (or_bad_fields (snapshot_of depth (left s.now 0)))) }
-{
-    let p = place::walk(s, 0, COUNT_TAG, tags::NAMED, HEAD, HEAD_W_END);
-    if !p.ok {
-        return breach(s);
-    }
-    let m = p.marks;
-    let Topped::Is(t) = top_w(s, m) else {
-        return breach(s);
-    };
-    counted(s, p.at, t)
+    let top = top(head, kind)?;
+    counted(s, at, top)
 }
 
 // 0, f, y, B.
-fn other(s: &[u8]) -> Lead
-    ensures { Leads s.now result (other_lead s.now) (λ depth. told (or_bad_fields (other_of (left s.now 0)))) }
+fn other(s: &[u8]) -> Option<Lead>
+    ensures { Leads s.now result (other_lead s.now) (λ depth. other_of (left s.now 0)) }
 {
-    let p = place::walk(s, 0, COUNT_TAG, HEAD_X_END, HEAD, HEAD_X_END);
-    if !p.ok {
-        return breach(s);
-    }
-    let q = place::walk(s, p.at, NO_TAG, HEAD_X_END, 0, 0);
-    if !q.ok {
-        return breach(s);
-    }
-    let m = p.marks;
-    let Topped::Is(t) = top_x(s, m) else {
-        return breach(s);
+    let mut marks = tags::no_marks();
+    let at = place::walk(s, 0, &mut marks, COUNT_TAG, HEAD_X_END, HEAD, HEAD_X_END)?;
+    let mut rest = tags::no_marks();
+    place::walk(s, at, &mut rest, NO_TAG, HEAD_X_END, 0, 0)?;
+    let head = Values {
+        text: s,
+        marks: &marks,
     };
-    alone(s, Verdict::Numbered, t.number, t.heard)
+    let top = top_x(head)?;
+    Some(Lead {
+        top,
+        at: s.len(),
+        count: 0,
+    })
 }
 
 // The fields between 35 and 10, by the type.
-pub fn typed(s: &[u8], kind: u8) -> Lead
-    ensures { Leads s.now result (lead_of kind s.now) (λ depth. told (or_bad_fields (typed_as depth kind (left s.now 0)))) }
+pub fn typed(s: &[u8], kind: u8) -> Option<Lead>
+    ensures { Leads s.now result (lead_of kind s.now) (λ depth. typed_as depth kind (left s.now 0)) }
 {
-    if kind == b'X' {
-        return changes(s);
+    match kind {
+        b'X' => with_group(s, Kind::Numbered),
+        b'W' => with_group(s, Kind::Snapshot),
+        _ => other(s),
     }
-    if kind == b'W' {
-        return snapshot(s);
-    }
-    other(s)
 }

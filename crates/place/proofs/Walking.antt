@@ -14,11 +14,11 @@ use Rattle.chain.specs.Fields.{Field, field}
 use Rattle.chain.specs.Places.{step, part, field_at, broken, left}
 use Rattle.chain.proofs.Walk.{walked, left_on, left_no, found}
 use Rattle.tags.specs.Tags.{tidy, up_to, onward}
-use Rattle.tags.specs.Slots.{slot_of, below, between, strays, breaks, Holds}
+use Rattle.tags.specs.Slots.{slot_of, below, between, no_marks, strays, breaks, Holds}
 use Rattle.tags.specs.declared.Marks.{Marks}
 use Rattle.tags.specs.declared.Span.{Span}
-use Rattle.tags.proofs.Marking.{with_span, held_more}
-use Rattle.tags.proofs.Tidiness.{fits, fits_test, tidy_more}
+use Rattle.tags.proofs.Marking.{none_held, with_span, held_more}
+use Rattle.tags.proofs.Tidiness.{fits, fits_test, tidy_nil, tidy_more}
 use Rattle.place.specs.Places.{Place, split_from, Tells}
 use Rattle.place.specs.Walks.{soh_at, mark_at, walk_on, Walk}
 use Rattle.place.proofs.Splits.{split_end, split_stop, split_stray, split_more}
@@ -197,3 +197,14 @@ forth_from stop named low high at m (f ∷ fs) {p} e =
 
 pub walked_forth : {s : List ℕ} {start stop named low high : ℕ} {m : Marks} {p : Place} → Walk s start stop named low high m (Some p) → start ≤ p.at
 walked_forth w = forth_from _ _ _ _ _ _ _ (sym w.exact)
+
+-- ---- a walk that starts with no marks
+module _ {s : List ℕ} {start stop named low high : ℕ} (n : named ≤ 21) where
+  tells_all : {r : Option Place} → Walk s start stop named low high no_marks r → Tells named s r (split_from stop named low high [] (left s start))
+  tells_all w = w.tells [] (none_held named s n) (tidy_nil (below named) (between low high))
+
+  pub walk_untidy : Walk s start stop named low high no_marks None → tidy (below named) (between low high) (up_to stop (left s start)) ≡ false
+  walk_untidy w = was_untidy s stop named low high [] (left s start) (tells_all w)
+
+  pub walk_tidy : {p : Place} → Walk s start stop named low high no_marks (Some p) → Tidy s stop named low high [] (left s start) p
+  walk_tidy {p} w = was_tidy s stop named low high [] (left s start) p (tells_all w)

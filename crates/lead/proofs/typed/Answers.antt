@@ -1,15 +1,17 @@
 -- `lead::typed` meets its contract: the type's own way to read. Assumes nothing.
-use mathlib.Core.Path.{sym}
-use Rattle.lead.proofs.Leading.{leads_as}
-use Rattle.lead.proofs.Bodies.{type_x, type_w, type_other}
-use Rattle.lead.proofs.Led.{led_x, led_w, led_other}
+use native.Mathlib.Omega.{arith}
+use borrow.Author.Tests.{ne_eqb}
+use Rattle.lead.specs.Messages.{typed_as}
 use Rattle.lead.proofs.typed.Goals as goal
 
-pub returns-then-kind-eq88 : goal.returns-then-kind-eq88
-returns-then-kind-eq88 c = leads_as c.changes.ensures (led_x _ _ c.if-kind-eq88.true) _ (λ depth. sym (type_x depth _ _ c.if-kind-eq88.true))
+pub returns-in-88 : goal.returns-in-88
+unfolding typed_as
+returns-in-88 c = simp c.in-88.is c.with_group.ensures
 
-pub returns-then-kind-eq87 : goal.returns-then-kind-eq87
-returns-then-kind-eq87 c = leads_as c.snapshot.ensures (led_w _ _ c.if-kind-eq88.false c.if-kind-eq87.true) _ (λ depth. sym (type_w depth _ _ c.if-kind-eq88.false c.if-kind-eq87.true))
+pub returns-in-87 : goal.returns-in-87
+unfolding typed_as
+returns-in-87 c = simp c.in-87.is c.with_group-in-87.ensures
 
-pub returns : goal.returns
-returns c = leads_as c.other.ensures (led_other _ _ c.if-kind-eq88.false c.if-kind-eq87.false) _ (λ depth. sym (type_other depth _ _ c.if-kind-eq88.false c.if-kind-eq87.false))
+pub returns-in_default : goal.returns-in_default
+unfolding typed_as
+returns-in_default c = simp (ne_eqb c.args.kind 88 (λ q. omega arith), ne_eqb c.args.kind 87 (λ q. omega arith)) c.other.ensures
