@@ -5,11 +5,13 @@
 ghost use Rattle.std.specs.Prelude.{◌≡◌, ◌*◌, ◌≤◌, length};
 ghost use Rattle.cells.specs.Runs.{update_size, updates_in};
 ghost use Rattle.message.specs.Message.{said};
+ghost use Rattle.message.specs.Answers.{number_of};
 ghost use Rattle.store.specs.Layout.{store_size};
 ghost use Rattle.store.specs.Meaning.{st};
 ghost use Rattle.store.specs.Canon.{Canon};
 ghost use Rattle.channel.specs.Feeds.{index_in, Aims, Feeds};
 
+use cells::run::Updates;
 use heading::Heading;
 use message::{Reading, Verdict};
 use store::Fed;
@@ -30,14 +32,10 @@ fn aim(store: &[u64], h: Heading, run: &mut [u64], count: usize)
     requires { (store_size ≤ length store.now) × (h.followed ≤ 16) × (count * update_size ≤ length run.old) }
     ensures { Aims (st h store.now) count run.old run.new }
 {
-    let mut i = 0usize;
-    while i < count {
+    for i in 0..count {
         let at = i * cells::UPDATE;
-        let id = run[at];
-        let what = run[at + cells::UPDATE_WHAT];
-        let k = index(store, h, id, what);
+        let k = index(store, h, run[at], run[at + cells::UPDATE_WHAT]);
         run[at] = k as u64;
-        i += 1;
     }
 }
 
@@ -45,15 +43,17 @@ fn aim(store: &[u64], h: Heading, run: &mut [u64], count: usize)
 // aimed where they stand.
 pub fn feed_read(store: &mut [u64], h: Heading, r: Reading, run: &mut [u64]) -> Fed
     requires { Canon (st h store.old) × (r.count * update_size ≤ length run.old) }
-    ensures feeds { Feeds (said r (updates_in run.old r.count)) (st h store.old) result.answer (st result.head store.new) }
+    ensures feeds { Feeds (said r (updates_in run.old r.count)) (st h store.old) (number_of result.answer) (st result.head store.new) }
     ensures aims { Aims (st h store.old) r.count run.old run.new }
 {
-    let count = r.count;
-    aim(store, h, run, count);
-    let v = r.verdict;
-    match v {
-        Verdict::Numbered => count::number(store, h, r.number, r.heard, run, count),
-        Verdict::Snapshot => kept::snapshot(store, h, r, run),
+    aim(store, h, run, r.count);
+    let us = Updates {
+        run,
+        count: r.count,
+    };
+    match r.verdict {
+        Verdict::Numbered => count::number(store, h, r.number, r.heard, us),
+        Verdict::Snapshot => kept::snapshot(store, h, r, us),
         Verdict::Refused(why) => kept::unread(h, why),
     }
 }
