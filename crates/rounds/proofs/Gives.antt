@@ -20,7 +20,7 @@ use Rattle.loops.proofs.Rows.{joined_same}
 use Rattle.store.specs.Meaning.{State, board_of, board_in}
 use Rattle.store.specs.Canon.{Canon}
 use Rattle.store.proofs.Decode.{insts_length}
-use Rattle.channel.specs.Feeds.{Aims, Feeds}
+use Rattle.channel.specs.Feeds.{Feeds}
 use Rattle.channel.proofs.Laws.{around_none, around_then, feeds_around}
 use Rattle.rounds.specs.Rounds.{Ends, Rounds, Gives}
 
@@ -66,7 +66,3 @@ module _ {m : Message} {s : State} {a : ℕ} {t : State} (k : Canon s) (f : Feed
   snapshot_gives h us l row u e o =
       let j : joined_by h (board_in t) l ≡ joined_by h (board_in s) l = rw board_is (joined_same h l (feed m (board_in s)).board (board_in s) (same_feed m (board_in s))) in
       record { means = rw (o.means, j, answer_is, board_is, e); canon = o.canon; around = around_then (feeds_around k.formed f) o.around }
-
--- the entries are aimed once, and the loop leaves the run
-pub aims_stay : (s : State) (n : ℕ) (xs ys zs : List ℕ) → zs ≡ ys → Aims s n xs ys → Aims s n xs zs
-aims_stay s n xs ys zs e a = rw e a

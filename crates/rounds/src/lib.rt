@@ -3,6 +3,7 @@
 
 ghost use Rattle.std.specs.Prelude.{◌≡◌, true, ◌*◌, ◌≤◌, length};
 ghost use Rattle.cells.specs.Runs.{update_size, updates_in};
+ghost use Rattle.message.specs.Answers.{number_of};
 ghost use Rattle.message.specs.Message.{most_number, head_in, told, said};
 ghost use Rattle.board.specs.Ranges.{message_fine};
 ghost use Rattle.board.specs.Sound.{Sound};
@@ -14,7 +15,7 @@ ghost use Rattle.rounds.specs.Rounds.{Ends, Rounds, Gives};
 
 use heading::Heading;
 use loops::Loop;
-use message::{Reading, Verdict};
+use message::{Answer, Reading, Verdict};
 
 // The heading that goes with the store, and the record of the loop behind a W.
 #[derive(Clone, Copy)]
@@ -23,15 +24,16 @@ struct Round {
     pub row: Loop,
 }
 
-// What a message is answered, by document 01's number, and the heading and the record that go with the store it leaves.
+// What a message is answered, and the heading and the record that go with the store it leaves.
 #[derive(Clone, Copy)]
 pub struct Given {
     pub head: Heading,
     pub row: Loop,
-    pub answer: u64,
+    pub answer: Answer,
 }
 
 // An empty snapshot for the SecurityID with 369 = last.
+#[tactic(auto, unfolding(message::specs::Message::told))]
 fn empty_for(id: u64, last: u64) -> Reading
     ensures { result ≡ (told (empty_for id last)).reading }
 {
@@ -53,17 +55,12 @@ fn end(store: &mut [u64], h: Heading, l: Loop, run: &mut [u64]) -> Heading
     ensures ends { Ends l (st h store.old) (st result store.new) }
     ensures run_unchanged { run.new ≡ run.old }
 {
-    let n = h.followed;
     let mut g = h;
-    let mut i = 0usize;
-    while i < n {
-        let k = i;
-        i += 1;
-        if l.named_at(k) {
+    for i in 0..h.followed {
+        if l.named_at(i) {
             continue;
         }
-        let id = store[store::IDS + k * store::RECORD];
-        let r = empty_for(id, l.low);
+        let r = empty_for(store[store::IDS + i * store::RECORD], l.low);
         let f = channel::feed_read(store, g, r, run);
         g = f.head;
     }
@@ -76,14 +73,12 @@ fn looped(store: &mut [u64], h: Heading, l: Loop, r: Reading, run: &mut [u64]) -
     ensures rounds { Rounds (head_in r) l (st h store.old) result.row (st result.head store.new) }
     ensures run_unchanged { run.new ≡ run.old }
 {
-    let i = store::find(store, h, r.id);
-    let m = l.join(r, h.followed, i);
+    let m = l.join(r, h.followed, store::find(store, h, r.id));
     if !m.is_whole() {
         return Round { head: h, row: m };
     }
-    let g = end(store, h, m, run);
     Round {
-        head: g,
+        head: end(store, h, m, run),
         row: loops::none(),
     }
 }
@@ -91,33 +86,23 @@ fn looped(store: &mut [u64], h: Heading, l: Loop, r: Reading, run: &mut [u64]) -
 // The message that a reading and the entries in a run say, on the channel that the heading, the record and the store are.
 pub fn give(store: &mut [u64], h: Heading, l: Loop, r: Reading, run: &mut [u64]) -> Given
     requires { Canon (st h store.old) × Sound (board_in (st h store.old)) × (l.come ≤ most_number) × (r.count * update_size ≤ length run.old) × (message_fine h.depth (said r (updates_in run.old r.count)) ≡ true) }
-    ensures gives { Gives (said r (updates_in run.old r.count)) l (st h store.old) result.answer result.row (st result.head store.new) }
+    ensures gives { Gives (said r (updates_in run.old r.count)) l (st h store.old) (number_of result.answer) result.row (st result.head store.new) }
     ensures aims { Aims (st h store.old) r.count run.old run.new }
 {
     let f = channel::feed_read(store, h, r, run);
-    let g = f.head;
-    let answer = f.answer;
-    let v = r.verdict;
-    match v {
-        Verdict::Numbered => Given {
-            head: g,
+    match r.verdict {
+        Verdict::Numbered | Verdict::Refused(_) => Given {
+            head: f.head,
             row: l,
-            answer,
+            answer: f.answer,
         },
         Verdict::Snapshot => {
-            let o = looped(store, g, l, r, run);
-            let last = o.head;
-            let row = o.row;
+            let o = looped(store, f.head, l, r, run);
             Given {
-                head: last,
-                row,
-                answer,
+                head: o.head,
+                row: o.row,
+                answer: f.answer,
             }
-        },
-        Verdict::Refused(why) => Given {
-            head: g,
-            row: l,
-            answer,
-        },
+        }
     }
 }

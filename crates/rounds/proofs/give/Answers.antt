@@ -1,9 +1,10 @@
--- `give` meets its contract: the board takes the message, and behind a W the loop does. Assumes nothing.
+-- `give` meets its contract: the board takes the message, and behind a W the loop does.
 use mathlib.Core.Path.{ap}
+use mathlib.Core.Logic.{⊎_elim}
 use Rattle.cells.specs.Runs.{updates_in}
 use Rattle.message.specs.declared.Verdict.{Verdict}
-use Rattle.message.specs.Message.{said_by}
-use Rattle.rounds.proofs.Gives.{sound_behind, number_gives, snapshot_gives, refused_gives, aims_stay}
+use Rattle.message.specs.Message.{Message, said_by}
+use Rattle.rounds.proofs.Gives.{sound_behind, number_gives, snapshot_gives, refused_gives}
 use Rattle.rounds.proofs.give.Goals as goal
 
 pub looped-o-requires : goal.looped-o-requires
@@ -11,34 +12,17 @@ looped-o-requires c =
     let f = c.feed_read-f.ensures.feeds in
     (f.canon, sound_behind c.requires.0 f c.requires.1 c.requires.4, c.requires.2)
 
+pub returns-in-Snapshot-clause-gives : goal.returns-in-Snapshot-clause-gives
+returns-in-Snapshot-clause-gives c =
+    let says = ap (λ (v : Verdict). said_by v c.args.r (updates_in c.args.run.now c.args.r.count)) c.in-Snapshot.is in
+    snapshot_gives c.requires.0 c.feed_read-f.ensures.feeds _ _ _ _ _ says c.looped-o.ensures.rounds
+
 pub returns-in-Numbered : goal.returns-in-Numbered
 returns-in-Numbered c =
-    let fed = c.feed_read-f in
+    let says : Verdict → Message = λ (v : Verdict). said_by v c.args.r (updates_in c.args.run.now c.args.r.count) in
+    let fed = c.feed_read-f.ensures in
     record {
       gives =
-          number_gives c.requires.0 fed.ensures.feeds _ _ _ _
-          (ap (λ (v : Verdict). said_by v c.args.r (updates_in c.args.run.now c.args.r.count)) c.in-Numbered.is);
-      aims = fed.ensures.aims;
-    }
-
-pub returns-in-Snapshot : goal.returns-in-Snapshot
-returns-in-Snapshot c =
-    let fed = c.feed_read-f in
-    let o = c.looped-o in
-    record {
-      gives =
-          snapshot_gives c.requires.0 fed.ensures.feeds _ _ _ _ _
-          (ap (λ (v : Verdict). said_by v c.args.r (updates_in c.args.run.now c.args.r.count)) c.in-Snapshot.is)
-          o.ensures.rounds;
-      aims = aims_stay _ _ _ _ _ o.ensures.run_unchanged fed.ensures.aims;
-    }
-
-pub returns-in-Refused : goal.returns-in-Refused
-returns-in-Refused c =
-    let fed = c.feed_read-f in
-    record {
-      gives =
-          refused_gives c.requires.0 fed.ensures.feeds _ _
-          (ap (λ (v : Verdict). said_by v c.args.r (updates_in c.args.run.now c.args.r.count)) c.in-Refused.is);
-      aims = fed.ensures.aims;
+          ⊎_elim (λ e. number_gives c.requires.0 fed.feeds _ _ _ _ (ap says e)) (λ z. refused_gives c.requires.0 fed.feeds _ _ (ap says z.1)) c.in-Numbered.is;
+      aims = fed.aims;
     }
