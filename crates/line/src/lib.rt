@@ -8,36 +8,43 @@ ghost use Rattle.chain.specs.Bytes.{field_bytes, bytes_of};
 ghost use Rattle.line.specs.Entries.{by_field, entry_fields, front_fields, Writable};
 
 use book::Entry;
+use orderid::OrderId;
+use pen::{Byte, Day, Number, Price, Time};
 
 // 37 on an order-depth channel, 346 on a price-depth one.
-fn by_field(out: &mut [u8], at: usize, depth: u64, e: Entry) -> usize
-    requires { (at < 2 ^ 26) × Writable e }
-    ensures { Wrote out.old at (field_bytes (by_field (eqb depth 0) e)) out.new result × (result ≤ at + 50) }
+fn by_field(out: &mut [u8], at: usize, depth: u64, e: &Entry) -> usize
+    requires { (at < 2 ^ 26) × Writable e.now }
+    ensures { Wrote out.old at (field_bytes (by_field (eqb depth 0) e.now)) out.new result × (result ≤ at + 50) }
 {
     if depth == 0 {
-        return pen::id_field(out, at, 37, e.by, e.more);
+        let id = OrderId {
+            by: e.by,
+            more: e.more,
+        };
+        pen::field(out, at, 37, id)
+    } else {
+        pen::field(out, at, 346, Number(e.by))
     }
-    pen::number_field(out, at, 346, e.by)
 }
 
 // 269, 270, 271, 37 or 346.
-fn front(out: &mut [u8], at: usize, depth: u64, sort: u8, e: Entry) -> usize
-    requires { (at < 2 ^ 25) × Writable e }
-    ensures { Wrote out.old at (bytes_of (front_fields depth sort e)) out.new result × (result ≤ at + 200) }
+fn front(out: &mut [u8], at: usize, depth: u64, sort: u8, e: &Entry) -> usize
+    requires { (at < 2 ^ 25) × Writable e.now }
+    ensures { Wrote out.old at (bytes_of (front_fields depth sort e.now)) out.new result × (result ≤ at + 200) }
 {
-    let a = pen::byte_field(out, at, 269, sort);
-    let b = pen::price_field(out, a, 270, e.price);
-    let d = pen::number_field(out, b, 271, e.size);
+    let a = pen::field(out, at, 269, Byte(sort));
+    let b = pen::field(out, a, 270, Price(e.price));
+    let d = pen::field(out, b, 271, Number(e.size));
     by_field(out, d, depth, e)
 }
 
 // An entry at its place; sort is the byte of 269.
-pub fn entry(out: &mut [u8], at: usize, depth: u64, sort: u8, place: u64, e: Entry) -> usize
-    requires { (at < 2 ^ 24) × (place < 10 ^ 18) × Writable e }
-    ensures { Wrote out.old at (bytes_of (entry_fields depth sort place e)) out.new result × (result ≤ at + 350) }
+pub fn entry(out: &mut [u8], at: usize, depth: u64, sort: u8, place: u64, e: &Entry) -> usize
+    requires { (at < 2 ^ 24) × (place < 10 ^ 18) × Writable e.now }
+    ensures { Wrote out.old at (bytes_of (entry_fields depth sort place e.now)) out.new result × (result ≤ at + 350) }
 {
     let a = front(out, at, depth, sort, e);
-    let b = pen::date_field(out, a, 272, e.moment / moment::SPAN);
-    let d = pen::time_field(out, b, 273, e.moment % moment::SPAN);
-    pen::number_field(out, d, 290, place)
+    let b = pen::field(out, a, 272, Day(e.moment / moment::SPAN));
+    let d = pen::field(out, b, 273, Time(e.moment % moment::SPAN));
+    pen::field(out, d, 290, Number(place))
 }

@@ -1,9 +1,10 @@
 -- A field is its tag, its value and SOH, written one after the other; fields are written one after another. Assumes nothing.
 use mathlib.Core.Path.{sym}
 use mathlib.Core.List.{List, [], ◌∷◌, ◌++◌, append_assoc, append-nil}
-use Prim.Native.Nat.{ℕ, ◌<◌}
+use Prim.Native.Nat.{ℕ, ◌+◌, ◌*◌, ◌≤◌, ◌<◌}
 use native.Mathlib.Omega.{arith}
 use lib.IntN.{ℤ, pos, negsuc, nat_abs}
+use lib.ListN.{length}
 use mir.Syntax.{w64}
 use mir.Val.{SFits}
 use Rattle.text.specs.Text.{decimal, Wrote}
@@ -18,17 +19,21 @@ pub a_field : {l m n p : List ℕ} {a b c d : ℕ} (t : ℕ) (v : List ℕ) → 
 unfolding field_bytes
 a_field t v x y z = as_text (append_assoc (decimal t) (61 ∷ []) (v ++ (1 ∷ []))) (and_then x (and_then y z))
 
-pub last_field : {l m : List ℕ} {a b : ℕ} (f : Field) → Wrote l a (field_bytes f) m b → Wrote l a (bytes_of (f ∷ [])) m b
-unfolding bytes_of
-last_field f x = as_text (sym (append-nil (field_bytes f))) x
+-- Fields were written one after another, each of at most 50 bytes.
+pub record Fields (l : List ℕ) (a : ℕ) (fs : List Field) (m : List ℕ) (b : ℕ) : Type 0 where
+  pub wrote : Wrote l a (bytes_of fs) m b
+  pub most : b ≤ a + 50 * length fs
 
-pub next_field : {l m n : List ℕ} {a b c : ℕ} (f : Field) (fs : List Field) → Wrote l a (field_bytes f) m b → Wrote m b (bytes_of fs) n c
-    → Wrote l a (bytes_of (f ∷ fs)) n c
+pub last_field : {l m : List ℕ} {a b : ℕ} (f : Field) → Wrote l a (field_bytes f) m b × (b ≤ a + 50) → Fields l a (f ∷ []) m b
 unfolding bytes_of
-next_field f fs x y = and_then x y
+last_field f x = record { wrote = as_text (sym (append-nil (field_bytes f))) x.0; most = omega (arith, x.1) }
 
-pub more_fields : {l m n : List ℕ} {a b c : ℕ} (fs gs : List Field) → Wrote l a (bytes_of fs) m b → Wrote m b (bytes_of gs) n c
-    → Wrote l a (bytes_of (fs ++ gs)) n c
+pub next_field : {l m n : List ℕ} {a b c : ℕ} (f : Field) (fs : List Field) → Wrote l a (field_bytes f) m b × (b ≤ a + 50) → Fields m b fs n c → Fields l a (f ∷ fs) n c
+unfolding bytes_of
+next_field f fs x y = record { wrote = and_then x.0 y.wrote; most = omega (arith, x.1, y.most) }
+
+-- some fields, then others
+pub more_fields : {l m n : List ℕ} {a b c : ℕ} (fs gs : List Field) → Wrote l a (bytes_of fs) m b → Wrote m b (bytes_of gs) n c → Wrote l a (bytes_of (fs ++ gs)) n c
 more_fields fs gs x y = as_text (sym (bytes_append fs gs)) (and_then x y)
 
 -- a price in range fits 64 bits

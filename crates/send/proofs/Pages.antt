@@ -18,10 +18,9 @@ use Rattle.board.specs.Board.{Inst, look, at}
 use Rattle.store.specs.Meaning.{State, book_at, inst_at, board_of, board_in, board_at}
 use Rattle.store.proofs.Decode.{insts_length, at_board}
 use Rattle.sound.specs.Sound.{sound}
-use Rattle.writer.specs.declared.Written.{Written}
 use Rattle.snapshot.specs.Snapshot.{Letter}
 use Rattle.snapshot.specs.Writing.{letter, Ready}
-use Rattle.writer.specs.Writing.{page_of, written_of}
+use Rattle.writer.specs.Writing.{Written, page_of, written_of}
 use Rattle.send.specs.Send.{Page, message, refusal, arguments_fine, page_at, sent_page, page_answer, page_out, send_answer, send_out, Sent}
 use Rattle.send.proofs.Lengths.{snapshot_most}
 

@@ -1,2 +1,4 @@
 pub mod Send
+pub mod Refusals
+pub mod Results
 pub mod Laws

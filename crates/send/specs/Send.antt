@@ -7,10 +7,9 @@ use Rattle.board.specs.Board.{Board, look, at}
 use Rattle.board.specs.Ranges.{id_fine}
 use Rattle.store.specs.Meaning.{board_at}
 use Rattle.sound.specs.Sound.{sound}
-use Rattle.writer.specs.declared.Written.{Written}
 use Rattle.snapshot.specs.Snapshot.{Letter, snapshot_bytes}
 use Rattle.snapshot.specs.Writing.{letter}
-use Rattle.writer.specs.Writing.{written_of, out_after}
+use Rattle.writer.specs.Writing.{Written, written_of, out_after}
 
 -- What a writing comes to before the output's room is looked at: a message, or the number of a refusal.
 pub data Page : Type 0 where

@@ -3,10 +3,12 @@ use Rattle.std.specs.Prelude.{ℕ, ◌≤◌, ◌<◌, ◌^◌, List, [], ◌∷
 use Rattle.text.specs.Text.{decimal}
 use Rattle.moment.specs.Moments.{moments, moment_text}
 use Rattle.chain.specs.Fields.{Field, field}
-use Rattle.book.specs.Canonical.{All, KeptBook, held_in}
+use Rattle.book.specs.Canonical.{All, KeptBook, held_in, lists_in}
 use Rattle.book.specs.declared.Book.{Book}
 use Rattle.line.specs.Entries.{Writable}
-use Rattle.snapshot.specs.Snapshot.{Letter}
+use Rattle.snapshot.specs.Snapshot.{Letter, snapshot_fields}
+use Rattle.snapshot.specs.declared.Letter as lent
+use Rattle.snapshot.specs.declared.Sheet.{Sheet}
 
 abbrev pub letter : List ℕ → List ℕ → ℕ → ℕ → ℕ → Letter
 letter sender target k m time = record { sender = sender; target = target; k = k; m = m; time = time }
@@ -24,11 +26,23 @@ pub record Ready (l : Letter) (who H : ℕ) (b : Book) : Type 0 where
   pub bids : All Writable (held_in b.bids)
   pub offers : All Writable (held_in b.offers)
 
+-- ---- what the code is lent
+abbrev pub letter_of : lent.Letter → Letter
+letter_of l = letter l.sender.now l.target.now l.k l.m l.time
+
+-- It can be written.
+abbrev pub ready : lent.Letter → Sheet → Type 0
+ready l s = Ready (letter_of l) s.id s.last s.book.now
+
+-- The snapshot's fields from 35 up to 10.
+abbrev pub fields_in : lent.Letter → Sheet → List Field
+fields_in l s = snapshot_fields s.depth (letter_of l) s.id s.last (lists_in s.book.now)
+
 -- ---- what the code writes in one piece
 -- 35, 49, 56, 34, 52
-abbrev pub sender_fields : List ℕ → List ℕ → ℕ → ℕ → List Field
-sender_fields sender target k time =
-    field 35 (87 ∷ []) ∷ field 49 sender ∷ field 56 target ∷ field 34 (decimal k) ∷ field 52 (moment_text time) ∷ []
+abbrev pub sender_fields : Letter → List Field
+sender_fields l =
+    field 35 (87 ∷ []) ∷ field 49 l.sender ∷ field 56 l.target ∷ field 34 (decimal l.k) ∷ field 52 (moment_text l.time) ∷ []
 
 -- 48, 22, 207, 369, 911, 268
 abbrev pub book_fields : ℕ → ℕ → ℕ → ℕ → List Field

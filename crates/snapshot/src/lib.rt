@@ -2,47 +2,64 @@
 // entries, the bids, the offers.
 #![tactic(auto)]
 
-ghost use Rattle.std.specs.Prelude.{◌+◌, ◌^◌, ◌≤◌, ◌<◌, length, take};
+ghost use Rattle.std.specs.Prelude.{◌+◌, ◌^◌, ◌≤◌, ◌<◌, length};
 ghost use Rattle.text.specs.Text.{Wrote};
 ghost use Rattle.moment.specs.Moments.{moments};
 ghost use Rattle.chain.specs.Bytes.{bytes_of};
-ghost use Rattle.book.specs.Canonical.{All, lists_in};
+ghost use Rattle.book.specs.Canonical.{All};
 ghost use Rattle.line.specs.Entries.{Writable};
-ghost use Rattle.snapshot.specs.Snapshot.{side_fields, snapshot_fields};
-ghost use Rattle.snapshot.specs.Writing.{letter, Ready, sender_fields, book_fields};
+ghost use Rattle.snapshot.specs.Snapshot.{side_fields};
+ghost use Rattle.snapshot.specs.Writing.{letter_of, ready, fields_in, sender_fields, book_fields};
 
 use book::{Book, Entry};
+use pen::{Byte, Bytes, Moment, Number};
+
+// Who writes to whom, message k of a loop of m, at a time.
+#[derive(Clone, Copy)]
+pub struct Letter<'a> {
+    pub sender: &'a [u8],
+    pub target: &'a [u8],
+    pub k: u64,
+    pub m: u64,
+    pub time: u64,
+}
+
+// What is written: the book of the instrument with this SecurityID, with 369 = last. Depth 0 is an order-depth channel.
+#[derive(Clone, Copy)]
+pub struct Sheet<'a> {
+    pub depth: u64,
+    pub id: u64,
+    pub last: u64,
+    pub book: &'a Book,
+}
 
 // 269 of a bid and of an offer.
-const BID: u8 = 48;
+const BID: u8 = b'0';
 
-const OFFER: u8 = 49;
+const OFFER: u8 = b'1';
 
 // The entries of a side, place 1 first.
-fn side(out: &mut [u8], at: usize, depth: u64, sort: u8, places: [Entry; 20], held: usize) -> usize
-    requires { (at < 2 ^ 20) × (held ≤ 20) × All Writable (take held places) }
-    ensures { Wrote out.old at (bytes_of (side_fields depth sort 1 (take held places))) out.new result × (result ≤ at + 7000) }
+fn side(out: &mut [u8], at: usize, depth: u64, sort: u8, held: &[Entry]) -> usize
+    requires { (at < 2 ^ 20) × (length held.now ≤ 20) × All Writable held.now }
+    ensures { Wrote out.old at (bytes_of (side_fields depth sort 1 held.now)) out.new result × (result ≤ at + 7000) }
 {
-    let mut i: usize = 0;
-    let mut a = at;
-    while i < held {
-        let e = places[i];
-        a = line::entry(out, a, depth, sort, (i as u64) + 1, e);
-        i += 1;
+    let mut next = at;
+    for (i, e) in held.iter().enumerate() {
+        next = line::entry(out, next, depth, sort, i as u64 + 1, e);
     }
-    a
+    next
 }
 
 // 35, 49, 56, 34, 52.
-fn sender_part(out: &mut [u8], at: usize, sender: &[u8], target: &[u8], k: u64, time: u64) -> usize
-    requires { (at < 2 ^ 20) × (length sender.now ≤ 16) × (length target.now ≤ 16) × (k ≤ 16) × (time < moments) }
-    ensures { Wrote out.old at (bytes_of (sender_fields sender.now target.now k time)) out.new result × (result ≤ at + 250) }
+fn sender_part(out: &mut [u8], at: usize, letter: &Letter<'_>) -> usize
+    requires { (at < 2 ^ 20) × (length letter.now.sender.now ≤ 16) × (length letter.now.target.now ≤ 16) × (letter.now.k ≤ 16) × (letter.now.time < moments) }
+    ensures { Wrote out.old at (bytes_of (sender_fields (letter_of letter.now))) out.new result × (result ≤ at + 250) }
 {
-    let a = pen::byte_field(out, at, 35, b'W');
-    let b = pen::bytes_field(out, a, 49, sender);
-    let d = pen::bytes_field(out, b, 56, target);
-    let e = pen::number_field(out, d, 34, k);
-    pen::moment_field(out, e, 52, time)
+    let a = pen::field(out, at, 35, Byte(b'W'));
+    let b = pen::field(out, a, 49, Bytes(letter.sender));
+    let d = pen::field(out, b, 56, Bytes(letter.target));
+    let e = pen::field(out, d, 34, Number(letter.k));
+    pen::field(out, e, 52, Moment(letter.time))
 }
 
 // 48, 22, 207, 369, 911, 268.
@@ -50,37 +67,25 @@ fn book_part(out: &mut [u8], at: usize, id: u64, last: u64, m: u64, entries: u64
     requires { (at < 2 ^ 21) × (id < 10 ^ 18) × (last ≤ 4294967295) × (m ≤ 16) × (entries ≤ 40) }
     ensures { Wrote out.old at (bytes_of (book_fields id last m entries)) out.new result × (result ≤ at + 300) }
 {
-    let a = pen::number_field(out, at, 48, id);
-    let b = pen::byte_field(out, a, 22, b'8');
-    let d = pen::bytes_field(out, b, 207, b"BVMF");
-    let e = pen::number_field(out, d, 369, last);
-    let f = pen::number_field(out, e, 911, m);
-    pen::number_field(out, f, 268, entries)
+    let a = pen::field(out, at, 48, Number(id));
+    let b = pen::field(out, a, 22, Byte(b'8'));
+    let d = pen::field(out, b, 207, Bytes(b"BVMF"));
+    let e = pen::field(out, d, 369, Number(last));
+    let f = pen::field(out, e, 911, Number(m));
+    pen::field(out, f, 268, Number(entries))
 }
 
 // From 35 up to 10.
-pub fn body(
-    out: &mut [u8],
-    at: usize,
-    depth: u64,
-    sender: &[u8],
-    target: &[u8],
-    k: u64,
-    m: u64,
-    time: u64,
-    id: u64,
-    last: u64,
-    book: Book,
-) -> usize
-    requires { (at ≤ 100) × Ready (letter sender.now target.now k m time) id last book }
-    ensures { Wrote out.old at (bytes_of (snapshot_fields depth (letter sender.now target.now k m time) id last (lists_in book))) out.new result × (result ≤ at + 15000) }
+pub fn body(out: &mut [u8], at: usize, letter: &Letter<'_>, sheet: &Sheet<'_>) -> usize
+    requires { (at ≤ 100) × ready letter.now sheet.now }
+    ensures { Wrote out.old at (bytes_of (fields_in letter.now sheet.now)) out.new result × (result ≤ at + 15000) }
 {
-    let bids = book.bids;
-    let offers = book.offers;
-    let ours = bids.places;
-    let theirs = offers.places;
-    let a = sender_part(out, at, sender, target, k, time);
-    let b = book_part(out, a, id, last, m, (bids.held + offers.held) as u64);
-    let d = side(out, b, depth, BID, ours, bids.held);
-    side(out, d, depth, OFFER, theirs, offers.held)
+    let Book { bids, offers } = sheet.book;
+    let ours = &bids.places[..bids.held];
+    let theirs = &offers.places[..offers.held];
+    let entries = (bids.held + offers.held) as u64;
+    let a = sender_part(out, at, letter);
+    let b = book_part(out, a, sheet.id, sheet.last, letter.m, entries);
+    let d = side(out, b, sheet.depth, BID, ours);
+    side(out, d, sheet.depth, OFFER, theirs)
 }

@@ -8,8 +8,7 @@ use borrow.Author.Tests.{le-leb, leb-true, lt-leb}
 use lib.Dec.{leb}
 use lib.ListN.{length, take, drop}
 use lib.Seq.{sets-eq, take-append_seam, drop-append_seam}
-use Rattle.writer.specs.Writing.{written_of, out_after}
-use Rattle.writer.specs.declared.Written.{Written}
+use Rattle.writer.specs.Writing.{Written, written_of, out_after}
 
 module _ (msg out : List ℕ) where
   -- with answer 0 there was room

@@ -7,7 +7,11 @@ use Rattle.frame.specs.Frames.{begin}
 use Rattle.book.specs.Canonical.{lists_in}
 use Rattle.book.specs.declared.Book.{Book}
 use Rattle.snapshot.specs.Snapshot.{Letter, snapshot_bytes}
-use Rattle.writer.specs.declared.Written.{Written}
+
+-- What a writing answers: 0 and the message's length, or 25 and 0.
+pub record Written : Type 0 where
+  pub answer : ℕ
+  pub bytes : ℕ
 
 -- The bytes of a book's snapshot.
 abbrev pub page_of : ℕ → Letter → ℕ → ℕ → Book → List ℕ

@@ -1,4 +1,4 @@
-// A book written as a snapshot message (document 01, "Quote and writing"). A dry run of the same body over one byte gives
+// A book written as a snapshot message (document 01, "Quote and writing"). A dry run of the same body over no bytes gives
 // the length, so that 9 and the refusal 25 are known before anything is written.
 #![tactic(auto)]
 
@@ -6,23 +6,16 @@ ghost use Rattle.std.specs.Prelude.{◌≡◌, ◌^◌, ◌≤◌, ◌<◌};
 ghost use Rattle.text.specs.Text.{Wrote};
 ghost use Rattle.orderid.specs.OrderIds.{is_id};
 ghost use Rattle.chain.specs.Bytes.{bytes_of};
-ghost use Rattle.snapshot.specs.Writing.{letter, Ready};
-ghost use Rattle.writer.specs.Writing.{page_of, written_of, out_after, opening_fields};
+ghost use Rattle.snapshot.specs.Writing.{ready};
+ghost use Rattle.writer.specs.Writing.{written_of, out_after, opening_fields};
+ghost use Rattle.writer.specs.Results.{page_in, written_in};
 
-use book::Book;
+use pen::{Bytes, Fixed, Number};
+use snapshot::{Letter, Sheet};
 
-// What a writing answers: 0 and the message's length, or 25 and 0.
-#[derive(Clone, Copy)]
-pub struct Written {
-    pub answer: u64,
-    pub bytes: usize,
-}
-
-// 0: the writing is done.
-pub const DONE: u64 = 0;
-
-// 25: the output is too short for the message.
-pub const TOO_SHORT: u64 = 25;
+// The output is too short for the message: answer 25.
+#[derive(Clone, Copy, Debug, PartialEq, Eq)]
+pub struct TooShort;
 
 // The bytes of 8, 9 and 10, but for 9's digits.
 const FRAME_BYTES: usize = 20;
@@ -39,44 +32,26 @@ fn opening(out: &mut [u8], n: u64) -> usize
     requires { n < 10 ^ 18 }
     ensures { Wrote out.old 0 (bytes_of (opening_fields n)) out.new result × (result ≤ 100) }
 {
-    let a = pen::bytes_field(out, 0, 8, b"FIX.4.4");
-    pen::number_field(out, a, 9, n)
+    let a = pen::field(out, 0, 8, Bytes(b"FIX.4.4"));
+    pen::field(out, a, 9, Number(n))
 }
 
-// The snapshot of a book at the start of out, with later bytes unchanged; or out as it was, where it is too short.
-pub fn write_page(
-    out: &mut [u8],
-    depth: u64,
-    sender: &[u8],
-    target: &[u8],
-    k: u64,
-    m: u64,
-    time: u64,
-    id: u64,
-    last: u64,
-    book: Book,
-) -> Written
-    requires { Ready (letter sender.now target.now k m time) id last book }
-    ensures value { result ≡ written_of (page_of depth (letter sender.now target.now k m time) id last book) out.old }
-    ensures out_after { out.new ≡ out_after (page_of depth (letter sender.now target.now k m time) id last book) out.old }
+// The snapshot of a book at the start of out, with later bytes unchanged, and its length; or out as it was, where it is too short.
+pub fn write_page(out: &mut [u8], letter: &Letter<'_>, sheet: &Sheet<'_>) -> Result<usize, TooShort>
+    requires { ready letter.now sheet.now }
+    ensures value { written_in result ≡ written_of (page_in letter.now sheet.now) out.old }
+    ensures out_after { out.new ≡ out_after (page_in letter.now sheet.now) out.old }
 {
-    let mut none = [0u8; 1];
-    let n = snapshot::body(
-        &mut none, 0, depth, sender, target, k, m, time, id, last, book,
-    );
+    let n = snapshot::body(&mut [], 0, letter, sheet);
     let w = text::width(n as u64);
     if out.len() < n + w + FRAME_BYTES {
-        return Written {
-            answer: TOO_SHORT,
-            bytes: 0,
-        };
+        return Err(TooShort);
     }
     let a = opening(out, n as u64);
-    let b = snapshot::body(out, a, depth, sender, target, k, m, time, id, last, book);
-    let s = frame::sum(out, b);
-    let e = pen::fixed_field(out, b, 10, 3, s as u64);
-    Written {
-        answer: DONE,
-        bytes: e,
-    }
+    let b = snapshot::body(out, a, letter, sheet);
+    let sum = Fixed {
+        width: 3,
+        number: u64::from(frame::sum(out, b)),
+    };
+    Ok(pen::field(out, b, 10, sum))
 }

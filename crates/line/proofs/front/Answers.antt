@@ -1,14 +1,11 @@
 -- Four fields, one after the other. Assumes nothing.
 use Rattle.pen.proofs.Laws.{last_field, next_field, price_fits}
 use mir.Facts.{to_z-of_z}
-use native.Mathlib.Omega.{arith}
 use Rattle.line.proofs.front.Goals as goal
 
 pub returns : goal.returns
 returns c =
-    let u = c.byte_field-a.ensures in
-    let v = c.price_field-b.ensures in
-    let w = c.number_field-d.ensures in
-    let x = c.by_field.ensures in
-    let f = price_fits c.args.e.price c.requires.1.price in
-    (next_field _ _ u.0 (next_field _ _ (rw (to_z-of_z f) at v.0) (next_field _ _ w.0 (last_field _ x.0))), omega (arith, u.1, v.1, w.1, x.1))
+    let f = price_fits c.args.e.now.price c.requires.1.price in
+    let v = rw (to_z-of_z f) at c.field-b.ensures in
+    let x = next_field _ _ c.field-a.ensures (next_field _ _ v (next_field _ _ c.field-d.ensures (last_field _ c.by_field.ensures))) in
+    (x.wrote, x.most)

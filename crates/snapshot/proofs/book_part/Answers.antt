@@ -1,16 +1,9 @@
 -- Six fields, one after the other. Assumes nothing.
 use Rattle.pen.proofs.Laws.{last_field, next_field}
-use native.Mathlib.Omega.{arith}
 use Rattle.snapshot.proofs.book_part.Goals as goal
 
 pub returns : goal.returns
 returns c =
-    let u = c.number_field-a.ensures in
-    let v = c.byte_field-b.ensures in
-    let w = c.bytes_field-d.ensures in
-    let x = c.number_field-e.ensures in
-    let y = c.number_field-f.ensures in
-    let z = c.number_field.ensures in (
-      next_field _ _ u.0 (next_field _ _ v.0 (next_field _ _ w.0 (next_field _ _ x.0 (next_field _ _ y.0 (last_field _ z.0))))),
-      omega (arith, u.1, v.1, w.1, x.1, y.1, z.1),
-    )
+    let x = next_field _ _ c.field-e.ensures (next_field _ _ c.field-f.ensures (last_field _ c.field.ensures)) in
+    let y = next_field _ _ c.field-a.ensures (next_field _ _ c.field-b.ensures (next_field _ _ c.field-d.ensures x)) in
+    (y.wrote, y.most)

@@ -1,13 +1,12 @@
 -- A dry run for the length; then 8 and 9, the body, and 10 with the sum. Assumes nothing.
 use Prim.Native.Nat.{◌+◌, ◌≤◌, ◌<◌}
-use Rattle.book.specs.Canonical.{lists_in}
 use Rattle.chain.specs.Bytes.{bytes_of}
 use Rattle.text.specs.Text.{width_of}
 use Rattle.writer.proofs.Pages.{short_written, short_after, done_written, done_after}
-use Rattle.snapshot.specs.Snapshot.{snapshot_fields, snapshot_bytes}
-use Rattle.snapshot.specs.Writing.{letter}
+use Rattle.snapshot.specs.Snapshot.{snapshot_bytes}
+use Rattle.snapshot.specs.Writing.{fields_in}
 use lib.ListN.{length}
-use mathlib.Core.Path.{◌≡◌, sym}
+use mathlib.Core.Path.{◌≡◌, sym, ◌∙◌}
 use native.Mathlib.Omega.{arith}
 use Rattle.writer.proofs.write_page.Goals as goal
 
@@ -15,10 +14,9 @@ pub returns-then-out-n : goal.returns-then-out-n
 unfolding snapshot_bytes
 returns-then-out-n c =
     let x = c.args in
-    let fs = snapshot_fields x.depth (letter x.sender.now x.target.now x.k x.m x.time) x.id x.last (lists_in x.book) in
-    let dry = c.body-n in
-    let n = dry.result in
-    let size : n ≡ length (bytes_of fs) = omega (arith, dry.ensures.0.next) in
+    let fs = fields_in x.letter.now x.sheet.now in
+    let n = c.body-n.result in
+    let size : n ≡ length (bytes_of fs) = omega (arith, c.body-n.ensures.0.next) in
     let h : length x.out.now < n + width_of n + 20 = rw (← c.width-w.ensures.0) c.if-out-n.true in
     record { value = sym (short_written fs n size x.out.now h); out_after = sym (short_after fs n size x.out.now h) }
 
@@ -26,15 +24,14 @@ pub returns : goal.returns
 unfolding snapshot_bytes
 returns c =
     let x = c.args in
-    let fs = snapshot_fields x.depth (letter x.sender.now x.target.now x.k x.m x.time) x.id x.last (lists_in x.book) in
-    let dry = c.body-n in
-    let n = dry.result in
-    let size : n ≡ length (bytes_of fs) = omega (arith, dry.ensures.0.next) in
+    let fs = fields_in x.letter.now x.sheet.now in
+    let n = c.body-n.result in
+    let size : n ≡ length (bytes_of fs) = omega (arith, c.body-n.ensures.0.next) in
     let h : n + width_of n + 20 ≤ length x.out.now = rw (← c.width-w.ensures.0) c.if-out-n.false in
     let u = c.opening-a.ensures.0 in
     let v = c.body-b.ensures.0 in
-    let s = c.sum-s.ensures in
-    let w = c.fixed_field-e.ensures.0 in
+    let s = c.from.ensures ∙ c.sum.ensures in
+    let w = c.field.ensures.0 in
     record {
       value = done_written fs n size x.out.now _ _ _ _ _ _ _ h u v s w;
       out_after = done_after fs n size x.out.now _ _ _ _ _ _ _ h u v s w;
