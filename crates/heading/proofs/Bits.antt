@@ -3,15 +3,19 @@ use mathlib.Core.Path.{◌≡◌, refl, sym, ap, ◌∙◌, subst}
 use mathlib.Core.Bool.{Bool, true, false, cond, not, ◌&&◌, ◌||◌}
 use mathlib.Core.Logic.{⊎_elim}
 use Prim.Native.Nat.{ℕ, zero, suc, ◌+◌, ◌*◌, ◌-◌, ◌/◌, ◌%◌, ◌^◌, ◌≤◌, ◌<◌}
-use native.Mathlib.Nat.{div-one, add_assoc, add_comm, mod-lt, mod-eq_of_lt, zero-lt-suc, zero-mul, zero-add}
+use native.Mathlib.Nat.{one-mul, div-one, add_assoc, add_comm, mod-lt, mod-eq_of_lt, zero-lt-suc, zero-mul, zero-add}
 use native.Mathlib.Omega.{arith}
-use lib.Dec.{ltb, eqb}
+use lib.Dec.{lit<, ltb, eqb}
 use lib.Bits.{bit_and, bit_or, and_shr, or_shr, and_mod, or_mod, or_lt}
 use lib.Count.{ones, ones_in, ones_step}
-use lib.Pow.{shr_lt, shr-shr, split, pow_pos, pow-lt, mod-pow-add}
+use lib.Pow.{shl_exact, shr_lt, shr-shr, split, pow_pos, pow-lt, mod-pow-add}
 use native.Mathlib.Numerals.{add-one}
 use borrow.Author.Tests.{ne_eqb, eq-eqb, eqb-true, eqb-false, ltb-true}
 use Rattle.heading.specs.Marks.{bit, marked, marked_in, with_mark, without_mark, all_marks}
+
+-- 1 moved up by i of 16 bits
+pub power : (i : ℕ) → i < 16 → 1 * 2 ^ i % 2 ^ 16 ≡ 2 ^ i
+power i h = shl_exact 1 i 16 (lit< tt) (omega arith) ∙ one-mul (2 ^ i)
 
 half_lt : (n k : ℕ) → n < 2 ^ suc k → n / 2 < 2 ^ k
 half_lt n k h = shr_lt k 1 (subst (λ (x : ℕ). n < 2 ^ x) (sym (native.Mathlib.Numerals.add-one k)) h)

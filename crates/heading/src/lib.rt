@@ -29,6 +29,7 @@ pub fn marked(m: u16, i: usize) -> bool
 }
 
 // m with mark i set.
+#[tactic(auto, using(crate::proofs::Bits::power), unfolding(crate::specs::Marks::with_mark))]
 pub fn with_mark(m: u16, i: usize) -> u16
     requires { i < 16 }
     ensures { result ≡ with_mark m i }
@@ -93,6 +94,7 @@ impl Heading {
     }
 
     // Instrument i is Live from now on.
+    #[tactic(auto, using(crate::proofs::Bits::power), unfolding(crate::specs::Marks::without_mark))]
     pub fn live(self, i: usize) -> Heading
         requires { i < 16 }
         ensures { result ≡ marks_now self (without_mark self.marks i) }

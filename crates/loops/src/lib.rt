@@ -51,6 +51,7 @@ pub fn is_sound(loops: u64, come: u64, low: u64, named: u64, n: u64) -> bool
 }
 
 // The names with the instrument at index i of n; one that is not followed has the index n, and adds no name.
+#[tactic(auto, using(crate::proofs::Joins::not_named, crate::proofs::Joins::is_named_lem))]
 fn with_name(named: u16, n: usize, i: usize) -> u16
     requires { n ≤ 16 }
     ensures { result ≡ with_name n i named }
@@ -64,6 +65,7 @@ fn with_name(named: u16, n: usize, i: usize) -> u16
 impl Loop {
     // A W has come for the instrument at index i of n: its 34 is 1 and begins a loop, or it is the next of this one with the same
     // 911; any other drops it.
+    #[tactic(auto, using(crate::proofs::Joins::lower_min, crate::proofs::Joins::begins, crate::proofs::Joins::drops, crate::proofs::Joins::grows))]
     pub fn join(self, r: Reading, n: usize, i: usize) -> Loop
         requires { (self.come ≤ most_number) × (n ≤ 16) }
         ensures { result ≡ in_row (head_in r) n i self }

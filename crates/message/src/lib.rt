@@ -120,6 +120,7 @@ pub struct Reading {
 }
 
 // A message that is not read.
+#[tactic(auto, unfolding(crate::specs::Message::told))]
 pub fn unread(why: Refusal) -> Reading
     ensures { result ≡ (told (refused why)).reading }
 {
