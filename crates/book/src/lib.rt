@@ -44,6 +44,8 @@ pub const DELETE_FROM: u64 = 4;
 
 // One place of a side. price is a whole number; its unit is nothing to a book. by and more are the two numbers of the order id,
 // or the number of orders and 0. moment is a date and time as one number. An unused place is all zero.
+// Kept: by and more are numbers and no enum of order id and orders, since `cells::load_entry` says each of any five numbers of the lent
+// store, and which of the two they are is told by the depth kind in its heading.
 #[derive(Clone, Copy)]
 pub struct Entry {
     pub price: i64,
@@ -54,6 +56,8 @@ pub struct Entry {
 }
 
 // The bids or the offers, place 1 first; the first `held` places are used.
+// Kept: 20 places with a number beside and no shorter list, since `cells::load_side` says that number of any store and `taking::show` counts
+// a side past 20, and memory is fixed.
 #[derive(Clone, Copy)]
 pub struct Side {
     pub places: [Entry; PLACES],
@@ -70,7 +74,7 @@ pub struct Book {
 // One entry of a message. who is the instrument: its SecurityID in a message, its index on a board; 0 where the entry is for all.
 // what: 0 bid, 1 offer, 2 J, 3 J for all. action: 0 new, 1 change, 2 delete, 3 delete thru, 4 delete from. Places count from 1.
 // Kept: what and action are numbers, since `cells::load_update` answers on any nine numbers of the lent store, and `apply` for every what
-// (J for each above 3) and every action (a breach of place for each above 4), as `book_step` and the theorems over it say.
+// (J for each above 2) and every action (a breach of place for each above 4), as `book_step` and the theorems over it say.
 #[derive(Clone, Copy)]
 pub struct Update {
     pub who: u64,
@@ -184,10 +188,7 @@ pub fn breach(n: usize, action: u64, p: usize) -> Result<(), Breach>
         }
         return Ok(());
     }
-    if n < p {
-        return Err(Breach::Place);
-    }
-    if DELETE_FROM < action {
+    if n < p || DELETE_FROM < action {
         return Err(Breach::Place);
     }
     Ok(())

@@ -8,6 +8,7 @@ ghost use Rattle.heading.specs.Headings.{counted_to, let_go, gap_at, marks_now, 
 
 // depth: 0 order depth, 1 price depth. followed: how many instruments. number: H. base: B. heard: the moment of message H.
 // marks: one bit an instrument, 1 for Waiting. queued: how many entries the queue holds.
+// Kept: depth is a number and no enum, since `store::load_heading` says with `heading_at` that number of any store, also one above 1.
 #[derive(Clone, Copy)]
 pub struct Heading {
     pub depth: u64,

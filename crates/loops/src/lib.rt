@@ -35,6 +35,7 @@ pub fn none() -> Loop
 }
 
 // Whether four numbers are the record of a loop on a channel of n instruments: none runs, or one of which fewer than 911 have come.
+// Kept: four numbers and no Loop, since the named of a store that is not sound may take more than the 16 bits that a Loop has for them.
 #[tactic(auto, using(crate::proofs::Ranges::rests, crate::proofs::Ranges::runs))]
 pub fn is_sound(loops: u64, come: u64, low: u64, named: u64, n: u64) -> bool
     requires { n ≤ 16 }

@@ -97,6 +97,7 @@ const BOOKS_AND_QUEUE: usize = 6912;
 
 // Answers of document 01 that several calls give: done; the store is under 7,168 numbers or unsound; an argument is outside its
 // range; the instrument is not followed; it is Waiting.
+// Kept: these are the numbers that the C functions answer (include/selkavorn.h).
 pub const DONE: u64 = 0;
 
 pub const BAD_STORE: u64 = 17;
