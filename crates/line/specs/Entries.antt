@@ -31,9 +31,3 @@ pub record Writable (e : Entry) : Type 0 where
   pub size : e.size < 10 ^ 12
   pub by : e.by < 10 ^ 18
   pub moment : e.moment < moments
-
--- ---- what the code writes first
--- 269, 270, 271, 37 or 346
-abbrev pub front_fields : ℕ → ℕ → Entry → List Field
-front_fields depth sort e =
-    field 269 (sort ∷ []) ∷ field 270 (price_text e.price) ∷ field 271 (decimal e.size) ∷ by_field (eqb depth 0) e ∷ []

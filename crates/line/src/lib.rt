@@ -5,7 +5,7 @@
 ghost use Rattle.std.specs.Prelude.{◌+◌, ◌^◌, ◌≤◌, ◌<◌, eqb};
 ghost use Rattle.text.specs.Text.{Wrote};
 ghost use Rattle.chain.specs.Bytes.{field_bytes, bytes_of};
-ghost use Rattle.line.specs.Entries.{by_field, entry_fields, front_fields, Writable};
+ghost use Rattle.line.specs.Entries.{by_field, entry_fields, Writable};
 
 use book::Entry;
 use orderid::OrderId;
@@ -27,24 +27,16 @@ fn by_field(out: &mut [u8], at: usize, depth: u64, e: &Entry) -> usize
     }
 }
 
-// 269, 270, 271, 37 or 346.
-fn front(out: &mut [u8], at: usize, depth: u64, sort: u8, e: &Entry) -> usize
-    requires { (at < 2 ^ 25) × Writable e.now }
-    ensures { Wrote out.old at (bytes_of (front_fields depth sort e.now)) out.new result × (result ≤ at + 200) }
-{
-    let a = pen::field(out, at, 269, Byte(sort));
-    let b = pen::field(out, a, 270, Price(e.price));
-    let d = pen::field(out, b, 271, Number(e.size));
-    by_field(out, d, depth, e)
-}
-
-// An entry at its place; sort is the byte of 269.
+// An entry at its place: 269, 270, 271, 37 or 346, 272, 273, 290. sort is the byte of 269.
 pub fn entry(out: &mut [u8], at: usize, depth: u64, sort: u8, place: u64, e: &Entry) -> usize
     requires { (at < 2 ^ 24) × (place < 10 ^ 18) × Writable e.now }
     ensures { Wrote out.old at (bytes_of (entry_fields depth sort place e.now)) out.new result × (result ≤ at + 350) }
 {
-    let a = front(out, at, depth, sort, e);
-    let b = pen::field(out, a, 272, Day(e.moment / moment::SPAN));
-    let d = pen::field(out, b, 273, Time(e.moment % moment::SPAN));
-    pen::field(out, d, 290, Number(place))
+    let a = pen::field(out, at, 269, Byte(sort));
+    let b = pen::field(out, a, 270, Price(e.price));
+    let d = pen::field(out, b, 271, Number(e.size));
+    let f = by_field(out, d, depth, e);
+    let g = pen::field(out, f, 272, Day(e.moment / moment::SPAN));
+    let h = pen::field(out, g, 273, Time(e.moment % moment::SPAN));
+    pen::field(out, h, 290, Number(place))
 }
