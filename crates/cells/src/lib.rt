@@ -49,6 +49,7 @@ pub fn save_entry(store: &mut [u64], at: usize, e: Entry)
 }
 
 // The side in the 101 numbers from `at` on: all 20 places, used or not.
+#[tactic(auto, using(crate::proofs::Tables::fill_turn), unfolding(crate::specs::Cells::tab))]
 pub fn load_side(store: &[u64], at: usize) -> Side
     requires { at + side_size ≤ length store.now }
     ensures { result ≡ side_at store.now at }
@@ -71,6 +72,7 @@ pub fn save_side(store: &mut [u64], at: usize, s: Side)
 }
 
 // The same where the first `from` places stand there already: they are not written again.
+#[tactic(auto, using(crate::proofs::Tables::save_turn, crate::proofs::Windows::places_again))]
 pub fn save_side_from(store: &mut [u64], at: usize, s: Side, from: usize)
     requires { (at + side_size ≤ length store.old) × (take from s.places ≡ take from (side_at store.old at).places) }
     ensures { store.new ≡ sets store.old at (side_words s) }
@@ -116,6 +118,7 @@ pub fn save_queued(store: &mut [u64], at: usize, number: u64, u: Update)
 }
 
 // n zeros from `at` on.
+#[tactic(auto, using(crate::proofs::Tables::filled))]
 pub fn zero_run(store: &mut [u64], at: usize, n: usize)
     requires { at + n ≤ length store.old }
     ensures { store.new ≡ sets store.old at (zeros n) }

@@ -168,6 +168,7 @@ pub fn save_loop(store: &mut [u64], l: Loop)
 // The index of the instrument with this SecurityID, or how many are followed.
 // Kept: a number and no Option, since `look` says that number of an instrument that is not followed, and `refusal_of`, `in_row` and the
 // contracts of `terms`, `taking` and `loops` take it as it is.
+#[tactic(auto, using(cells::proofs::Tables::tab_turn, cells::proofs::Tables::tab_end), unfolding(board::specs::Board::look, crate::specs::Meaning::inst_at, crate::specs::Meaning::board_of))]
 pub fn find(store: &[u64], h: Heading, id: u64) -> usize
     requires { (store_size ≤ length store.now) × (h.followed ≤ 16) }
     ensures { (result ≡ look id (board_in (st h store.now)).insts) × (result ≤ h.followed) }
