@@ -4,6 +4,7 @@ use mathlib.Core.Bool.{true}
 use mathlib.Core.List.{List, [], ◌∷◌, ◌++◌}
 use Prim.Native.Nat.{ℕ, zero, suc, ◌+◌, ◌-◌, ◌*◌, ◌/◌, ◌%◌, ◌^◌, ◌≤◌, ◌<◌}
 use native.Mathlib.Nat.{pow-suc, pow-le-pow_right}
+use native.Mathlib.Numerals.{add-one}
 use native.Mathlib.Omega.{arith}
 use borrow.Author.Tests.{ne_eqb}
 use lib.ListN.{length}
@@ -35,18 +36,18 @@ pub pack_over : (n v : ℕ) → onto (word_text 0 n) v ≡ v
 unfolding word_text
 pack_over n v = refl
 
-pub pack_more : (k n v : ℕ) → (n ≡ 0 → ⊥) → 0 < k → onto (word_text k n) v ≡ onto (word_text (k - 1) ((n - 1) / 94)) (v * 256 + (33 + (n - 1) % 94))
+pub pack_more : (k n v : ℕ) → (n ≡ 0 → ⊥) → k < 8 → onto (word_text (8 - k) n) v ≡ onto (word_text (8 - (k + 1)) ((n - 1) / 94)) (v * 256 + (33 + (n - 1) % 94))
 pack_more k n v h l =
-    let z : k ≡ suc (k - 1) = omega arith in
+    let z : 8 - k ≡ suc (8 - (k + 1)) = omega arith in
     let w : 33 + (n - 1) % 94 + 256 * v ≡ v * 256 + (33 + (n - 1) % 94) = omega arith in
-    rw (ap (λ (j : ℕ). onto (word_text j n) v) z, text_more (k - 1) n h, onto_append, w)
+    rw (ap (λ (j : ℕ). onto (word_text j n) v) z, text_more (8 - (k + 1)) n h, onto_append, w)
 
 -- one byte more
-pub pack_lt : (k : ℕ) {v b : ℕ} → 0 < k → k ≤ 8 → v < 256 ^ (8 - k) → b < 256 → v * 256 + b < 256 ^ (8 - (k - 1))
-pack_lt k h m l r = let z : 8 - (k - 1) ≡ suc (8 - k) = omega arith in rw (z, pow-suc) (omega arith)
+pub pack_lt : (k : ℕ) {v b : ℕ} → v < 256 ^ k → b < 256 → v * 256 + b < 256 ^ (k + 1)
+pack_lt k l r = rw (add-one, pow-suc) (omega arith)
 
-pub pack_small : (k : ℕ) {v : ℕ} → 0 < k → v < 256 ^ (8 - k) → v < 72057594037927936
-pack_small k {v} h l = let q : 8 - k ≤ 7 = omega arith in let p : 256 ^ (8 - k) ≤ 256 ^ 7 = pow-le-pow_right (omega arith) q in omega arith
+pub pack_small : (k : ℕ) {v : ℕ} → k < 8 → v < 256 ^ k → v < 72057594037927936
+pack_small k {v} h l = let q : k ≤ 7 = omega arith in let p : 256 ^ k ≤ 256 ^ 7 = pow-le-pow_right (omega arith) q in omega arith
 
 -- ---- out again
 bytes_zero : (k : ℕ) → bytes_in k 0 ≡ []

@@ -15,57 +15,43 @@ pub struct OrderId {
     pub more: u64,
 }
 
-fn wide(x: u8) -> u64
-    ensures { result ≡ x }
-{
-    x as u64
-}
+// The least byte of an id, and the greatest.
+const FIRST: u8 = b'!';
+
+const LAST: u8 = b'~';
 
 // The word of at most 8 bytes; that of no bytes is 0.
+#[tactic(auto, unfolding(crate::specs::Words::word_of))]
 fn read_word(text: &[u8]) -> Option<u64>
     requires { length text.now ≤ 8 }
     ensures { result ≡ word_of text.now }
 {
-    let mut v: u64 = 0;
-    let mut i: usize = 0;
-    while i < text.len() {
-        let b = text[i];
-        if b < 33 {
+    let mut v = 0u64;
+    for b in text {
+        if *b < FIRST || LAST < *b {
             return None;
         }
-        if 126 < b {
-            return None;
-        }
-        v = v * 94 + wide(b - 32);
-        i += 1;
+        v = v * 94 + u64::from(*b - 32);
     }
     Some(v)
 }
 
 // An id of 1 to 16 bytes.
+#[tactic(auto, using(crate::proofs::Steps::none, crate::proofs::Steps::long, crate::proofs::Steps::one_word, crate::proofs::Steps::two_parts))]
 pub fn read(text: &[u8]) -> Option<OrderId>
     ensures { result ≡ id_of text.now }
 {
-    let n = text.len();
-    if n == 0 {
-        return None;
+    match text.len() {
+        1..=8 => Some(OrderId {
+            by: read_word(text)?,
+            more: 0,
+        }),
+        9..=16 => Some(OrderId {
+            by: read_word(&text[..8])?,
+            more: read_word(&text[8..])?,
+        }),
+        _ => None,
     }
-    if 16 < n {
-        return None;
-    }
-    if n <= 8 {
-        let Some(a) = read_word(text) else {
-            return None;
-        };
-        return Some(OrderId { by: a, more: 0 });
-    }
-    let Some(a) = read_word(&text[..8]) else {
-        return None;
-    };
-    let Some(b) = read_word(&text[8..]) else {
-        return None;
-    };
-    Some(OrderId { by: a, more: b })
 }
 
 // A word's bytes in one number, the first lowest, zeros above the last.
@@ -73,23 +59,15 @@ pub fn packed(word: u64) -> u64
     ensures { result ≡ packed_of word }
 {
     let mut m = word;
-    let mut v: u64 = 0;
-    let mut left: usize = 8;
-    while 0 < left {
+    let mut v = 0u64;
+    for _k in 0..8usize {
         if m == 0 {
             return v;
         }
-        left -= 1;
         v = v * 256 + (33 + (m - 1) % 94);
         m = (m - 1) / 94;
     }
     v
-}
-
-fn low_byte(v: u64) -> u8
-    ensures { result ≡ v % 256 }
-{
-    (v % 256) as u8
 }
 
 // The bytes of a packed word.
@@ -100,7 +78,7 @@ fn put_packed(out: &mut [u8], at: usize, p: u64) -> usize
     let mut v = p;
     let mut a = at;
     while v != 0 {
-        a = text::put(out, a, low_byte(v));
+        a = text::put(out, a, (v % 256) as u8);
         v /= 256;
     }
     a

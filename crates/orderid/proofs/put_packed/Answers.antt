@@ -21,7 +21,7 @@ loop-v-preserved c =
     let j = x.at + 8 - c.put-a.result in
     let z : 0 < k = bytes_any k l.v t l.invariant.3 in
     let q : k ≡ j + 1 = omega (arith, w.next) in
-    let m = rw (bytes_more k j l.v t q, ← c.low_byte.ensures) at l.invariant.4 in
+    let m = rw (bytes_more k j l.v t q) at l.invariant.4 in
     (omega (arith, w.next), omega (arith, w.next), c.put-a.auto.out ∙ l.invariant.2, bytes_less k j l.v q l.invariant.3, left_more m w)
 
 pub returns : goal.returns
