@@ -1,32 +1,48 @@
 -- The parts of a price, and how large each can be. Assumes nothing.
-use Rattle.std.specs.Prelude.{Option, Some, None}
-use mathlib.Core.Path.{◌≡◌, refl}
+use Rattle.std.specs.Prelude.{Option, Some, None, position}
+use Rattle.std.specs.Option.{unwrap_or}
+use Rattle.std.specs.List.{position_or_len}
+use mathlib.Core.Path.{◌≡◌, refl, ap, ◌∙◌}
 use mathlib.Core.List.{List, [], ◌∷◌}
-use mathlib.Core.Bool.{Bool, true, false, cond}
+use mathlib.Core.Bool.{Bool, true, false, cond, not}
 use Prim.Native.Nat.{ℕ, zero, suc, ◌+◌, ◌-◌, ◌*◌, ◌^◌, ◌≤◌, ◌<◌}
 use native.Mathlib.Omega.{arith}
 use native.Mathlib.Nat.{add-zero, mul-lt-mul_of_pos_right, one-le-pow}
 use native.Mathlib.Numerals.{add-one}
-use borrow.Author.Tests.{eq-eqb, ne_eqb}
-use lib.Dec.{eqb}
+use borrow.Author.Tests.{eq-eqb, ne_eqb, ltb-true, ltb-false}
+use lib.Dec.{eqb, ltb}
 use lib.Pow.{pow-add}
 use lib.IntN.{ℤ, pos, neg_ℤ, nat_abs}
-use lib.ListN.{length, get_or, take, drop, length-drop, drop_of_length-le}
+use lib.ListN.{length, get_or, take, drop, length-drop}
 use lib.Seq.{drop-cons, drop-length, take_all}
 use Rattle.digits.specs.Digits.{digits_of}
 use Rattle.digits.proofs.Width.{below, digits_width}
 use Rattle.price.specs.Price.{most_wholes, most_decimals, unit, top, ahead, scaled, fraction_of, joined, amount_of, minus, plus, price_of}
 
--- where the point stands, a byte at a time
-module _ (s : List ℕ) (x i : ℕ) where
-  pub found : i < length s → get_or s i 0 ≡ x → i + ahead x (drop i s) ≡ i
-  found l h = simp (drop-cons s i 0 l, eq-eqb (get_or s i 0) x h, add-zero)
+-- where the point stands
+ahead_is : (x : ℕ) (bs : List ℕ) → ahead x bs ≡ position_or_len (λ b. eqb b x) bs
+ahead_is x [] = refl
+ahead_is x (b ∷ bs) = go (eqb b x) (ahead_is x bs)
+  where
+    go : (t : Bool) → ahead x bs ≡ position_or_len (λ b. eqb b x) bs → cond t 0 (ahead x bs + 1) ≡ cond (not t) (1 + position_or_len (λ b. eqb b x) bs) 0
+    go true e = refl
+    go false e = omega arith
 
-  pub passed : i < length s → (get_or s i 0 ≡ x → ⊥) → i + 1 + ahead x (drop (i + 1) s) ≡ i + ahead x (drop i s)
-  passed l h = simp (drop-cons s i 0 l, ne_eqb (get_or s i 0) x h, add-one) (omega arith)
+ahead_le : (x : ℕ) (bs : List ℕ) → ahead x bs ≤ length bs
+ahead_le x [] = omega arith
+ahead_le x (b ∷ bs) = go (eqb b x) (ahead_le x bs)
+  where
+    go : (t : Bool) → ahead x bs ≤ length bs → cond t 0 (ahead x bs + 1) ≤ suc (length bs)
+    go true h = omega arith
+    go false h = omega arith
 
-  pub unfound : length s ≤ i → i + ahead x (drop i s) ≡ i
-  unfound h = rw (drop_of_length-le s h, add-zero)
+pub find_is : (x : ℕ) (s : List ℕ) (r : Option ℕ) (n : ℕ) → r ≡ position (λ b. eqb b x) s → n ≡ unwrap_or r (length s) → (n ≡ ahead x s) × (n ≤ length s)
+find_is x s r n e q = go (ltb (position_or_len (λ b. eqb b x) s) (length s)) refl (q ∙ ap (λ (o : Option ℕ). unwrap_or o (length s)) e)
+  where
+    go : (t : Bool) → ltb (position_or_len (λ b. eqb b x) s) (length s) ≡ t → n ≡ unwrap_or (cond t (Some (position_or_len (λ b. eqb b x) s)) None) (length s)
+        → (n ≡ ahead x s) × (n ≤ length s)
+    go true p h = let a = ahead_is x s in (omega arith, omega (arith, ltb-true (position_or_len (λ b. eqb b x) s) (length s) p))
+    go false p h = let a = ahead_is x s in (omega (arith, ltb-false (position_or_len (λ b. eqb b x) s) (length s) p, ahead_le x s), omega arith)
 
 -- the part of a list from a place to its end
 pub tail : (s : List ℕ) (q : ℕ) → take (length s - q) (drop q s) ≡ drop q s

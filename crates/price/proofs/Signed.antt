@@ -11,6 +11,9 @@ use mir.Val.{SFits, to_z, of_z}
 use mir.Facts.{sfits_lit, to_z_pos, to_z-of_z}
 use Rattle.price.specs.Price.{top}
 
+pub plus_fits : (m : ℕ) → m < 2 ^ 63 → SFits w64 (pos m)
+plus_fits m h = record { sfits = omega arith }
+
 pub minus_fits : (m : ℕ) → m < 2 ^ 63 → SFits w64 (neg_ℤ (pos m))
 minus_fits zero h = sfits_lit tt
 minus_fits (suc n) h = record { sfits = omega arith }

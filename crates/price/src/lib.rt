@@ -2,7 +2,7 @@
 // minus (document 01, "Fields" 270 and "Quote and writing"; document 02, K6).
 #![tactic(auto)]
 
-ghost use Rattle.std.specs.Prelude.{◌≡◌, ◌+◌, ◌-◌, ◌*◌, ◌^◌, ◌≤◌, ◌<◌, length, pos, neg_ℤ, nat_abs};
+ghost use Rattle.std.specs.Prelude.{◌≡◌, ◌+◌, ◌-◌, ◌*◌, ◌^◌, ◌≤◌, ◌<◌, length, nat_abs};
 ghost use Rattle.text.specs.Text.{Wrote};
 ghost use Rattle.price.specs.Price.{most_decimals, unit, top, ahead, amount_of, price_of};
 ghost use Rattle.price.specs.PriceText.{decimals, amount_text, price_text};
@@ -13,19 +13,12 @@ use holding::{DECIMALS, UNIT, WHOLES};
 fn find(text: &[u8], x: u8) -> usize
     ensures { (result ≡ ahead x text.now) × (result ≤ length text.now) }
 {
-    let n = text.len();
-    let mut i: usize = 0;
-    while i < n {
-        if text[i] == x {
-            return i;
-        }
-        i += 1;
-    }
-    n
+    text.iter().position(|b| *b == x).unwrap_or(text.len())
 }
 
-// Ten to the number of decimals that are missing. By cases and not by `holding`'s constant array: of cases the compiler makes one
-// table, an array it stores at each call.
+// Ten to the number of decimals that are missing.
+// Kept: by cases and not by `holding`'s constant array: of cases the compiler makes one table, an array it stores at each call
+// (docs/DECISIONS.md, 2026-11-16).
 fn scale(n: usize) -> u64
     requires { n ≤ most_decimals }
     ensures { result ≡ 10 ^ (most_decimals - n) }
@@ -47,54 +40,27 @@ fn scale(n: usize) -> u64
 fn amount(text: &[u8]) -> Option<u64>
     ensures { result ≡ amount_of text.now }
 {
-    let n = text.len();
-    let p = find(text, 46);
-    let Some(w) = digits::digits(&text[..p], WHOLES) else {
-        return None;
-    };
-    if p == n {
+    let p = find(text, b'.');
+    let w = digits::digits(&text[..p], WHOLES)?;
+    if p == text.len() {
         return Some(w * UNIT);
     }
     let q = p + 1;
-    let Some(f) = digits::digits(&text[q..], DECIMALS) else {
-        return None;
-    };
-    Some(w * UNIT + f * scale(n - q))
-}
-
-// An amount without a minus.
-fn above(m: u64) -> i64
-    requires { m < 2 ^ 63 }
-    ensures { result ≡ pos m }
-{
-    m as i64
-}
-
-// An amount after a minus: its negation.
-fn below(m: u64) -> i64
-    requires { m < 2 ^ 63 }
-    ensures { result ≡ neg_ℤ (pos m) }
-{
-    -(m as i64)
+    let f = digits::digits(&text[q..], DECIMALS)?;
+    Some(w * UNIT + f * scale(text.len() - q))
 }
 
 // Tag 270: an optional minus, then an amount.
 pub fn read(text: &[u8]) -> Option<i64>
     ensures { result ≡ price_of text.now }
 {
-    if text.len() == 0 {
+    if text.is_empty() {
         return None;
     }
-    if text[0] == 45 {
-        let Some(m) = amount(&text[1..]) else {
-            return None;
-        };
-        return Some(below(m));
+    if text[0] == b'-' {
+        return Some(-(amount(&text[1..])? as i64));
     }
-    let Some(n) = amount(text) else {
-        return None;
-    };
-    Some(above(n))
+    Some(amount(text)? as i64)
 }
 
 // The decimals without the zeros at the end.
@@ -111,6 +77,8 @@ fn put_decimals(out: &mut [u8], at: usize, f: u64) -> usize
     text::put_fixed(out, at, k, m)
 }
 
+// An amount, shortest form.
+#[tactic(auto, unfolding(crate::specs::PriceText::amount_text, crate::specs::PriceText::fraction_text))]
 fn put_amount(out: &mut [u8], at: usize, m: u64) -> usize
     requires { (at < 2 ^ 30) × (m < top) }
     ensures { Wrote out.old at (amount_text m) out.new result × (result ≤ at + 19 + most_decimals) }
@@ -120,18 +88,8 @@ fn put_amount(out: &mut [u8], at: usize, m: u64) -> usize
     if f == 0 {
         return b;
     }
-    let d = text::put(out, b, 46);
+    let d = text::put(out, b, b'.');
     put_decimals(out, d, f)
-}
-
-fn magnitude(p: i64) -> u64
-    requires { nat_abs p < top }
-    ensures { result ≡ nat_abs p }
-{
-    if p < 0 {
-        return (-p) as u64;
-    }
-    p as u64
 }
 
 // A price, shortest form.
@@ -139,9 +97,9 @@ pub fn put(out: &mut [u8], at: usize, p: i64) -> usize
     requires { (at < 2 ^ 29) × (nat_abs p < top) }
     ensures { Wrote out.old at (price_text p) out.new result × (result ≤ at + 20 + most_decimals) }
 {
-    let m = magnitude(p);
+    let m = p.unsigned_abs();
     if p < 0 {
-        let b = text::put(out, at, 45);
+        let b = text::put(out, at, b'-');
         return put_amount(out, b, m);
     }
     put_amount(out, at, m)
