@@ -16,10 +16,10 @@ const WIDEST: usize = 18;
 const FEW: usize = 3;
 
 // No number: above every one of 18 digits.
-const NONE: u64 = 18446744073709551615;
+const NONE: u64 = u64::MAX;
 
 // '0'.
-const ZERO: u64 = 48;
+const ZERO: u64 = b'0' as u64;
 
 // A word is four bytes as one number, the first the lowest. A byte times EACH is a word of four such bytes.
 const EACH: u64 = 0x0101_0101;
@@ -51,18 +51,11 @@ const PAIRS: u64 = 0x00ff_00ff;
 // These pairs times this have, in the third and fourth byte, a hundred times the first pair and the second.
 const HUNDREDS: u64 = 100 * 65536 + 1;
 
-// A byte as a number.
-pub fn wide(x: u8) -> u64
-    ensures { result ≡ x }
-{
-    x as u64
-}
-
 // What a byte is worth: '0' to '9' 0 to 9, every other byte more.
 pub fn worth(b: u8) -> u64
     ensures { result ≡ bit_xor b 48 }
 {
-    b as u64 ^ ZERO
+    u64::from(b) ^ ZERO
 }
 
 // The word of what four bytes are worth.
@@ -99,7 +92,7 @@ fn both(a: u64, b: u64) -> Option<u64>
     ensures { result ≡ digits_of 8 ((a % 256 + 48) ∷ (a / 256 % 256 + 48) ∷ (a / 65536 % 256 + 48) ∷ (a / 16777216 + 48) ∷ (b % 256 + 48) ∷ (b / 256 % 256 + 48) ∷ (b / 65536 % 256 + 48) ∷ (b / 16777216 + 48) ∷ []) }
 {
     let w = a + b * WORDS;
-    let more = std::num::wrapping_add_u64(w, SIXES_BOTH);
+    let more = w.wrapping_add(SIXES_BOTH);
     if (w & UPPER_BOTH) | (more & UPPER_BOTH) != 0 {
         return None;
     }
@@ -176,16 +169,10 @@ fn long(text: &[u8]) -> Option<u64>
 {
     let n = text.len();
     let k = (n - 1) % 4 + 1;
-    let Some(a) = first(text, k) else {
-        return None;
-    };
-    let mut v = a;
+    let mut v = first(text, k)?;
     let mut i = k;
     while i < n {
-        let Some(w) = next(text, i) else {
-            return None;
-        };
-        v = v * 10000 + w;
+        v = v * 10000 + next(text, i)?;
         i += 4;
     }
     Some(v)
@@ -203,6 +190,7 @@ fn many(text: &[u8]) -> Option<u64>
 }
 
 // 1 to width digits as their number, or NONE, where these may be more than few.
+// Kept: a plain number and no Option, which goes through memory and costs a feed a tenth more time (docs/PROVING.md).
 fn read(text: &[u8], width: usize) -> u64
     requires { 3 < width }
     ensures { digits_of width text.now ≡ (if nat_eq result 18446744073709551615 then None else Some result) }
@@ -215,18 +203,12 @@ fn read(text: &[u8], width: usize) -> u64
         if n == 0 {
             return NONE;
         }
-        let Some(v) = short(text) else {
-            return NONE;
-        };
-        return v;
+        return short(text).unwrap_or(NONE);
     }
     if width < n {
         return NONE;
     }
-    let Some(v) = many(text) else {
-        return NONE;
-    };
-    v
+    many(text).unwrap_or(NONE)
 }
 
 // 1 to width digits where these are few, one a turn.
@@ -242,15 +224,13 @@ fn few(text: &[u8], width: usize) -> Option<u64>
     if n > width {
         return None;
     }
-    let mut v: u64 = 0;
-    let mut i: usize = 0;
-    while i < n {
-        let d = worth(text[i]);
+    let mut v = 0;
+    for b in text {
+        let d = worth(*b);
         if 9 < d {
             return None;
         }
         v = v * 10 + d;
-        i += 1;
     }
     Some(v)
 }
@@ -263,23 +243,18 @@ pub fn digits(text: &[u8], width: usize) -> Option<u64>
         return few(text, width);
     }
     let v = read(text, width);
-    if v == NONE {
-        return None;
-    }
-    Some(v)
+    if v == NONE { None } else { Some(v) }
 }
 
 // Whether a zero stands before other bytes.
 fn leads(text: &[u8]) -> bool
     ensures { result ≡ nat_le 2 (length text.now) && (slice_index text.now 0 == 48) }
 {
-    if text.len() <= 1 {
-        return false;
-    }
-    text[0] == 48
+    2 <= text.len() && text[0] == b'0'
 }
 
-// A whole number: 1 to width digits without a leading zero, except 0 itself. Not by `digits`: a function with two callers stays one.
+// A whole number: 1 to width digits without a leading zero, except 0 itself.
+// Kept: not by `digits`, since a function with two callers stays one (docs/PROVING.md).
 pub fn whole(text: &[u8], width: usize) -> Option<u64>
     ensures { result ≡ whole_of width text.now }
 {
@@ -290,24 +265,13 @@ pub fn whole(text: &[u8], width: usize) -> Option<u64>
         return few(text, width);
     }
     let v = read(text, width);
-    if v == NONE {
-        return None;
-    }
-    Some(v)
+    if v == NONE { None } else { Some(v) }
 }
 
 // A whole number of at most width digits, from low to high.
+#[tactic(auto, unfolding(crate::specs::Digits::ranged_of))]
 pub fn ranged(text: &[u8], width: usize, low: u64, high: u64) -> Option<u64>
     ensures { result ≡ ranged_of width low high text.now }
 {
-    let Some(v) = whole(text, width) else {
-        return None;
-    };
-    if v < low {
-        return None;
-    }
-    if high < v {
-        return None;
-    }
-    Some(v)
+    whole(text, width).filter(|v| low <= *v && *v <= high)
 }

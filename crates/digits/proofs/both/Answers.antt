@@ -8,8 +8,7 @@ use Rattle.digits.proofs.both.Goals as goal
 
 pub returns-then-w-more-ne0 : goal.returns-then-w-more-ne0
 returns-then-w-more-ne0 c =
-    let w = c.args.a + c.args.b * 2 ^ 32 in
-    sym (writes_both_none c.args.a c.args.b c.requires.0 c.requires.1 (λ z. c.if-w-more-ne0.true (ap (λ (u : ℕ). bit_or (bit_and w 0xf0f0_f0f0_f0f0_f0f0) (bit_and u 0xf0f0_f0f0_f0f0_f0f0)) c.wrapping_add_u64-more.ensures.value ∙ z)))
+    sym (writes_both_none c.args.a c.args.b c.requires.0 c.requires.1 c.if-w-more-ne0.true)
 
 pub overflow_mul-result : goal.overflow_mul-result
 overflow_mul-result c =
@@ -24,6 +23,4 @@ overflow_add-result c =
 
 pub returns : goal.returns
 returns c =
-    let w = c.args.a + c.args.b * 2 ^ 32 in
-    let z = ap (λ (u : ℕ). bit_or (bit_and w 0xf0f0_f0f0_f0f0_f0f0) (bit_and u 0xf0f0_f0f0_f0f0_f0f0)) (sym c.wrapping_add_u64-more.ensures.value) ∙ c.if-w-more-ne0.false in
-    ap (λ (u : ℕ). Some (u * 10000 + c.four-2.result)) c.four.ensures ∙ ap (λ (u : ℕ). Some (number c.args.a * 10000 + u)) c.four-2.ensures ∙ sym (writes_both c.args.a c.args.b c.requires.0 c.requires.1 z)
+    ap (λ (u : ℕ). Some (u * 10000 + c.four-2.result)) c.four.ensures ∙ ap (λ (u : ℕ). Some (number c.args.a * 10000 + u)) c.four-2.ensures ∙ sym (writes_both c.args.a c.args.b c.requires.0 c.requires.1 c.if-w-more-ne0.false)

@@ -1,11 +1,8 @@
 -- `digits::few` meets its contract: the whole answer is what is left gives, after the digits that wrote v. Assumes nothing.
-use Rattle.std.proofs.Common.{◌≡◌, ◌-◌, ◌^◌, ◌<◌, ◌≤◌, drop}
+use Rattle.std.proofs.Common.{◌≡◌, ◌^◌, ◌<◌, drop}
 use Rattle.digits.specs.Digits.{digits_of}
 use Rattle.digits.proofs.Steps.{rest}
 use Rattle.digits.proofs.few.Given as goal
 
-abbrev pub invariant-loop-i : goal.invariant-loop-i
-invariant-loop-i l = (l.i ≤ 3) × (l.i ≤ l.n) × (l.v < 10 ^ l.i) × (digits_of l.width l.text ≡ rest l.v (drop l.i l.text))
-
-abbrev pub decreases-loop-i : goal.decreases-loop-i
-decreases-loop-i l = l.n - l.i
+abbrev pub invariant-loop-b : goal.invariant-loop-b
+invariant-loop-b l = (l.v < 10 ^ l.b-index) × (digits_of l.width l.text ≡ rest l.v (drop l.b-index l.text))

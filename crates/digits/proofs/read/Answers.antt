@@ -1,6 +1,5 @@
 -- `digits::read` meets its contract. Assumes nothing.
-use Rattle.std.proofs.Common.{sym, ◌∙◌, arith}
-use Rattle.digits.proofs.Width.{below}
+use Rattle.std.proofs.Common.{arith}
 use Rattle.digits.proofs.Steps.{none, long, too_wide_lem, widest}
 use Rattle.digits.proofs.Plain.{as_plain}
 use Rattle.digits.proofs.read.Goals as goal
@@ -13,24 +12,14 @@ pub returns-then-n-eq0 : goal.returns-then-n-eq0
 returns-then-n-eq0 c =
     none _ _ c.if-n-eq0.true
 
-pub returns-in_default : goal.returns-in_default
-returns-in_default c =
-    sym (widest c.args.text.now c.args.width (omega (arith, c.if-n-eq0.false)) (omega (arith, c.if-n-le-FEW.true, c.requires)) c.if-width-gt-WIDEST.false) ∙ sym c.in_default.ensures
-
 pub returns-then-n-le-FEW : goal.returns-then-n-le-FEW
 returns-then-n-le-FEW c =
-    let e = sym c.in-Some.ensures in
-    as_plain _ _ (sym (widest c.args.text.now c.args.width (omega (arith, c.if-n-eq0.false)) (omega (arith, c.if-n-le-FEW.true, c.requires)) c.if-width-gt-WIDEST.false) ∙ e) (below 18 _ e)
+    as_plain _ _ _ _ c.short.ensures (widest c.args.text.now c.args.width (omega (arith, c.if-n-eq0.false)) (omega (arith, c.if-n-le-FEW.true, c.requires)) c.if-width-gt-WIDEST.false) c.unwrap_or.ensures
 
 pub returns-then-width-n : goal.returns-then-width-n
 returns-then-width-n c =
     long _ _ (omega (arith, c.if-width-n.true)) c.if-width-n.true
 
-pub returns-in_default-many : goal.returns-in_default-many
-returns-in_default-many c =
-    sym (widest _ _ (omega (arith, c.if-n-le-FEW.false)) c.if-width-n.false c.if-width-gt-WIDEST.false) ∙ sym c.in_default-many.ensures
-
 pub returns : goal.returns
 returns c =
-    let e = sym c.in-Some-many.ensures in
-    as_plain _ _ (sym (widest _ _ (omega (arith, c.if-n-le-FEW.false)) c.if-width-n.false c.if-width-gt-WIDEST.false) ∙ e) (below 18 _ e)
+    as_plain _ _ _ _ c.many.ensures (widest _ _ (omega (arith, c.if-n-le-FEW.false)) c.if-width-n.false c.if-width-gt-WIDEST.false) c.unwrap_or-2.ensures

@@ -13,5 +13,5 @@ returns-then-width-le-FEW c = c.few.ensures ∙ sym (unled _ _ (sym c.leads.ensu
 pub returns-then-v : goal.returns-then-v
 returns-then-v c = sym (unled _ _ (sym c.leads.ensures ∙ c.if-leads.false) ∙ is_no _ _ c.read-v.ensures c.if-v.true)
 
-pub returns : goal.returns
-returns c = sym (unled _ _ (sym c.leads.ensures ∙ c.if-leads.false) ∙ is_number _ _ c.read-v.ensures c.if-v.false)
+pub returns-else-v : goal.returns-else-v
+returns-else-v c = sym (unled _ _ (sym c.leads.ensures ∙ c.if-leads.false) ∙ is_number _ _ c.read-v.ensures c.if-v.false)
