@@ -21,6 +21,8 @@ pub struct Heading {
 }
 
 // Whether mark i of m is set.
+// Kept: `i < 16` is a clause and no type of index, since each caller has i from a range or a comparison and would make the type to call:
+// `h.waits(i)` would be `h.waits(Place { index: i })`.
 #[tactic(auto, unfolding(crate::specs::Marks::marked))]
 pub fn marked(m: u16, i: usize) -> bool
     requires { i < 16 }
