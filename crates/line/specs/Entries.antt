@@ -1,5 +1,5 @@
 -- One entry of a snapshot as fields (document 01, "Quote and writing").
-use Rattle.std.specs.Prelude.{ℕ, ◌<◌, ◌^◌, List, [], ◌∷◌, Bool, true, false, eqb, nat_abs}
+use Rattle.std.specs.Prelude.{ℕ, ◌<◌, ◌^◌, List, [], ◌∷◌, Bool, true, false, eqb, nat_abs, length, get_or}
 use Rattle.text.specs.Text.{decimal}
 use Rattle.price.specs.Price.{top}
 use Rattle.price.specs.PriceText.{price_text}
@@ -7,6 +7,7 @@ use Rattle.moment.specs.Moments.{moments, date_text, time_text, day_part, time_p
 use Rattle.orderid.specs.OrderIds.{id_text}
 use Rattle.chain.specs.Fields.{Field, field}
 use Rattle.book.specs.declared.Entry.{Entry}
+use Rattle.book.specs.Sides.{no_entry}
 
 -- 37 on an order-depth channel, 346 on a price-depth one.
 abbrev pub by_field : Bool → Entry → Field
@@ -31,3 +32,7 @@ pub record Writable (e : Entry) : Type 0 where
   pub size : e.size < 10 ^ 12
   pub by : e.by < 10 ^ 18
   pub moment : e.moment < moments
+
+-- Each of these entries can be written.
+abbrev pub AllWritable : List Entry → Type 0
+AllWritable es = (k : ℕ) → k < length es → Writable (get_or es k no_entry)

@@ -1,6 +1,6 @@
 -- What the results of a writing say.
 use Rattle.std.specs.Prelude.{ℕ, Bool, Result, Ok, Err}
-use Rattle.snapshot.specs.declared.Letter.{Letter}
+use Rattle.snapshot.specs.declared.letters.Letter.{Letter}
 use Rattle.send.specs.declared.refusals.Refusal.{Refusal}
 use Rattle.send.specs.Refusals.{refusal_number}
 use Rattle.send.specs.Send.{arguments_fine, written_number}

@@ -2,14 +2,13 @@
 #![tactic(auto)]
 
 ghost use Rattle.std.specs.Prelude.{◌≡◌, true, ◌≤◌, ◌<◌, length, IfOk};
-ghost use Rattle.moment.specs.Moments.{moments};
 ghost use Rattle.board.specs.Board.{look};
 ghost use Rattle.store.specs.Layout.{store_size};
 ghost use Rattle.store.specs.Meaning.{book_at, board_at};
 ghost use Rattle.sound.specs.Sound.{sound};
 ghost use Rattle.snapshot.specs.Writing.{letter_of, Ready};
 ghost use Rattle.writer.specs.Writing.{page_of, written_of, out_after};
-ghost use Rattle.send.specs.Send.{page_at, written_number, page_answer, page_out, Sent};
+ghost use Rattle.send.specs.Send.{arguments_fine, page_at, written_number, page_answer, page_out, Sent};
 ghost use Rattle.send.specs.Results.{fine, number_in};
 
 use book::Book;
@@ -27,15 +26,15 @@ const LENGTHS: u64 = 256;
 
 // Whether the arguments are in their ranges.
 #[tactic(auto, unfolding(crate::specs::Send::arguments_fine))]
-fn arguments_fine(id: u64, letter: &Letter<'_>) -> bool
-    ensures { result ≡ fine id letter.now }
+fn arguments_fine(id: u64, sender: &[u8], target: &[u8], k: u64, m: u64) -> bool
+    ensures { result ≡ arguments_fine id sender.now target.now k m }
 {
     book::is_id(id)
-        && writer::id_bytes(letter.sender)
-        && writer::id_bytes(letter.target)
-        && 1 <= letter.k
-        && letter.k <= letter.m
-        && letter.m <= MOST_LOOP
+        && writer::id_bytes(sender)
+        && writer::id_bytes(target)
+        && 1 <= k
+        && k <= m
+        && m <= MOST_LOOP
 }
 
 // The book of the instrument at index i.
@@ -81,7 +80,7 @@ fn write_sound(
     letter: &Letter<'_>,
     out: &mut [u8],
 ) -> Result<usize, Refusal>
-    requires { (sound store.now ≡ true) × (fine id letter.now ≡ true) × (letter.now.time < moments) }
+    requires { (sound store.now ≡ true) × (fine id letter.now ≡ true) }
     ensures value { number_in result ≡ page_answer (page_at (look id (board_at store.now).insts) (letter_of letter.now) id (board_at store.now)) out.old }
     ensures out_after { out.new ≡ page_out (page_at (look id (board_at store.now).insts) (letter_of letter.now) id (board_at store.now)) out.old }
     ensures short { IfOk result (λ n. n ≤ 12000) }
@@ -115,6 +114,9 @@ fn try_write(
         return Err(Refusal::BadStore);
     }
     let time = moment::moment(time).ok_or(Refusal::BadArgument)?;
+    if !arguments_fine(id, sender, target, k, m) {
+        return Err(Refusal::BadArgument);
+    }
     let letter = Letter {
         sender,
         target,
@@ -122,9 +124,6 @@ fn try_write(
         m,
         time,
     };
-    if !arguments_fine(id, &letter) {
-        return Err(Refusal::BadArgument);
-    }
     write_sound(store, id, &letter, out)
 }
 

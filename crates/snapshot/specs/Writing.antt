@@ -7,8 +7,8 @@ use Rattle.book.specs.Canonical.{All, KeptBook, held_in, lists_in}
 use Rattle.book.specs.declared.Book.{Book}
 use Rattle.line.specs.Entries.{Writable}
 use Rattle.snapshot.specs.Snapshot.{Letter, snapshot_fields}
-use Rattle.snapshot.specs.declared.Letter as lent
-use Rattle.snapshot.specs.declared.Sheet.{Sheet}
+use Rattle.snapshot.specs.declared.letters.Letter as lent
+use Rattle.snapshot.specs.declared.letters.Sheet.{Sheet}
 
 abbrev pub letter : List ℕ → List ℕ → ℕ → ℕ → ℕ → Letter
 letter sender target k m time = record { sender = sender; target = target; k = k; m = m; time = time }
@@ -29,10 +29,6 @@ pub record Ready (l : Letter) (who H : ℕ) (b : Book) : Type 0 where
 -- ---- what the code is lent
 abbrev pub letter_of : lent.Letter → Letter
 letter_of l = letter l.sender.now l.target.now l.k l.m l.time
-
--- It can be written.
-abbrev pub ready : lent.Letter → Sheet → Type 0
-ready l s = Ready (letter_of l) s.id s.last s.book.now
 
 -- The snapshot's fields from 35 up to 10.
 abbrev pub fields_in : lent.Letter → Sheet → List Field

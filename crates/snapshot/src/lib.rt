@@ -4,34 +4,17 @@
 
 ghost use Rattle.std.specs.Prelude.{◌+◌, ◌^◌, ◌≤◌, ◌<◌, length};
 ghost use Rattle.text.specs.Text.{Wrote};
-ghost use Rattle.moment.specs.Moments.{moments};
 ghost use Rattle.chain.specs.Bytes.{bytes_of};
-ghost use Rattle.book.specs.Canonical.{All};
-ghost use Rattle.line.specs.Entries.{Writable};
+ghost use Rattle.line.specs.Entries.{AllWritable};
 ghost use Rattle.snapshot.specs.Snapshot.{side_fields};
-ghost use Rattle.snapshot.specs.Writing.{letter_of, ready, fields_in, sender_fields, book_fields};
+ghost use Rattle.snapshot.specs.Writing.{letter_of, fields_in, sender_fields, book_fields};
 
 use book::{Book, Entry};
 use pen::{Byte, Bytes, Moment, Number};
 
-// Who writes to whom, message k of a loop of m, at a time.
-#[derive(Clone, Copy)]
-pub struct Letter<'a> {
-    pub sender: &'a [u8],
-    pub target: &'a [u8],
-    pub k: u64,
-    pub m: u64,
-    pub time: u64,
-}
+mod letters;
 
-// What is written: the book of the instrument with this SecurityID, with 369 = last. Depth 0 is an order-depth channel.
-#[derive(Clone, Copy)]
-pub struct Sheet<'a> {
-    pub depth: u64,
-    pub id: u64,
-    pub last: u64,
-    pub book: &'a Book,
-}
+pub use letters::{Letter, Sheet};
 
 // 269 of a bid and of an offer.
 const BID: u8 = b'0';
@@ -40,7 +23,7 @@ const OFFER: u8 = b'1';
 
 // The entries of a side, place 1 first.
 fn side(out: &mut [u8], at: usize, depth: u64, sort: u8, held: &[Entry]) -> usize
-    requires { (at < 2 ^ 20) × (length held.now ≤ 20) × All Writable held.now }
+    requires { (at < 2 ^ 20) × (length held.now ≤ 20) × AllWritable held.now }
     ensures { Wrote out.old at (bytes_of (side_fields depth sort 1 held.now)) out.new result × (result ≤ at + 7000) }
 {
     let mut next = at;
@@ -52,7 +35,7 @@ fn side(out: &mut [u8], at: usize, depth: u64, sort: u8, held: &[Entry]) -> usiz
 
 // 35, 49, 56, 34, 52.
 fn sender_part(out: &mut [u8], at: usize, letter: &Letter<'_>) -> usize
-    requires { (at < 2 ^ 20) × (length letter.now.sender.now ≤ 16) × (length letter.now.target.now ≤ 16) × (letter.now.k ≤ 16) × (letter.now.time < moments) }
+    requires { at < 2 ^ 20 }
     ensures { Wrote out.old at (bytes_of (sender_fields (letter_of letter.now))) out.new result × (result ≤ at + 250) }
 {
     let a = pen::field(out, at, 35, Byte(b'W'));
@@ -77,7 +60,7 @@ fn book_part(out: &mut [u8], at: usize, id: u64, last: u64, m: u64, entries: u64
 
 // From 35 up to 10.
 pub fn body(out: &mut [u8], at: usize, letter: &Letter<'_>, sheet: &Sheet<'_>) -> usize
-    requires { (at ≤ 100) × ready letter.now sheet.now }
+    requires { at ≤ 100 }
     ensures { Wrote out.old at (bytes_of (fields_in letter.now sheet.now)) out.new result × (result ≤ at + 15000) }
 {
     let Book { bids, offers } = sheet.book;

@@ -1,7 +1,7 @@
 -- What the writer's results say, and the message that it is asked for (document 01, "Quote and writing"; answers 0 and 25).
 use Rattle.std.specs.Prelude.{ℕ, List, Result, Ok, Err}
-use Rattle.snapshot.specs.declared.Letter as lent
-use Rattle.snapshot.specs.declared.Sheet.{Sheet}
+use Rattle.snapshot.specs.declared.letters.Letter as lent
+use Rattle.snapshot.specs.declared.letters.Sheet.{Sheet}
 use Rattle.snapshot.specs.Writing.{letter_of}
 use Rattle.writer.specs.declared.TooShort.{TooShort}
 use Rattle.writer.specs.Writing.{Written, page_of}

@@ -6,7 +6,6 @@ ghost use Rattle.std.specs.Prelude.{◌≡◌, ◌^◌, ◌≤◌, ◌<◌};
 ghost use Rattle.text.specs.Text.{Wrote};
 ghost use Rattle.orderid.specs.OrderIds.{is_id};
 ghost use Rattle.chain.specs.Bytes.{bytes_of};
-ghost use Rattle.snapshot.specs.Writing.{ready};
 ghost use Rattle.writer.specs.Writing.{written_of, out_after, opening_fields};
 ghost use Rattle.writer.specs.Results.{page_in, written_in};
 
@@ -38,7 +37,6 @@ fn opening(out: &mut [u8], n: u64) -> usize
 
 // The snapshot of a book at the start of out, with later bytes unchanged, and its length; or out as it was, where it is too short.
 pub fn write_page(out: &mut [u8], letter: &Letter<'_>, sheet: &Sheet<'_>) -> Result<usize, TooShort>
-    requires { ready letter.now sheet.now }
     ensures value { written_in result ≡ written_of (page_in letter.now sheet.now) out.old }
     ensures out_after { out.new ≡ out_after (page_in letter.now sheet.now) out.old }
 {

@@ -5,8 +5,10 @@ use mathlib.Core.Path.{◌≡◌, sym, ap, ◌∙◌}
 use mathlib.Core.Bool.{true}
 use Rattle.moment.specs.Moments.{moment_of}
 use Rattle.moment.proofs.Bounds.{moment_lt}
+use native.Mathlib.Omega.{arith}
 use Rattle.sound.specs.Sound.{sound}
 use Rattle.send.specs.Results.{number_in}
+use Rattle.send.proofs.Facts.{fine}
 use Rattle.send.proofs.Pages.{sent, unsound, no_time, bad, good}
 use Rattle.send.proofs.try_write.Goals as goal
 
@@ -34,12 +36,22 @@ returns-then-not-arguments_fine-clause-sent c =
     let p = bad x.id x.sender.now x.target.now x.k x.m x.time.now x.store.now s _ read (sym c.arguments_fine.ensures ∙ c.if-not-arguments_fine.true) in
     sent x.id x.sender.now x.target.now x.k x.m x.time.now x.store.now x.out.now _ p
 
+pub invariant_of-letter : goal.invariant_of-letter
+invariant_of-letter c =
+    let x = c.args in
+    let f = fine x.id x.sender.now x.target.now x.k x.m (sym c.arguments_fine.ensures ∙ c.if-not-arguments_fine.false) in
+    let read : moment_of x.time.now ≡ Some c.in_ok-time.time = sym c.moment.ensures ∙ c.in_ok-time.ensures.ok_part in
+    record {
+      sender_short = f.from;
+      target_short = f.to;
+      k_low = omega (arith, f.turn, f.loop);
+      m_low = f.loop;
+      is_moment = moment_lt x.time.now read;
+    }
+
 pub write_sound-requires : goal.write_sound-requires
 write_sound-requires c =
-    let x = c.args in
-    let s : sound x.store.now ≡ true = sym c.sound.ensures ∙ c.if-not-sound.false in
-    let read : moment_of x.time.now ≡ Some c.in_ok-time.time = sym c.moment.ensures ∙ c.in_ok-time.ensures.ok_part in
-    (s, sym c.arguments_fine.ensures ∙ c.if-not-arguments_fine.false, moment_lt x.time.now read)
+    (sym c.sound.ensures ∙ c.if-not-sound.false, sym c.arguments_fine.ensures ∙ c.if-not-arguments_fine.false)
 
 pub returns-clause-sent : goal.returns-clause-sent
 returns-clause-sent c =

@@ -70,7 +70,7 @@ write_book-requires c =
     let h = c.load_heading-h.ensures in
     let q : c.find-i.result < (loaded xs).head.followed = rw h at c.if-h-i.false in
     let f = formed xs s in
-    (f.long, omega (arith, f.few, q), rw h (ready xs s c.find-i.result x.id x.letter.now.sender.now x.letter.now.target.now x.letter.now.k x.letter.now.m x.letter.now.time q c.requires.1 c.requires.2))
+    (f.long, omega (arith, f.few, q), rw h (ready xs s c.find-i.result x.id x.letter.now.sender.now x.letter.now.target.now x.letter.now.k x.letter.now.m x.letter.now.time q c.requires.1 x.letter.now.is_moment))
 
 pub returns : goal.returns
 returns c =

@@ -1,8 +1,7 @@
 -- Entry by entry, each at its place. Assumes nothing.
 use Rattle.book.specs.Sides.{no_entry}
-use Rattle.line.specs.Entries.{Writable}
 use Rattle.text.proofs.Stores.{left_all, left_more, left_none}
-use Rattle.snapshot.proofs.Sides.{all_at, side_more, side_end}
+use Rattle.snapshot.proofs.Sides.{side_more, side_end}
 use lib.ListN.{drop_of_length-le}
 use native.Mathlib.Omega.{arith}
 use Rattle.snapshot.proofs.side.Goals as goal
@@ -13,7 +12,7 @@ loop-i-init c = record { near = omega arith; left = left_all }
 pub entry-next-requires : goal.entry-next-requires
 entry-next-requires c =
     let l = c.loop-i in
-    (omega arith, omega arith, all_at Writable c.args.held.now l.i no_entry c.requires.2 c.loop-i-test.true)
+    (omega arith, omega arith, c.requires.2 l.i c.loop-i-test.true)
 
 pub loop-i-preserved : goal.loop-i-preserved
 loop-i-preserved c =
