@@ -1,4 +1,5 @@
 pub mod Headings
 pub mod Ascents
+pub mod Spreads
 pub mod Booked
 pub mod Lowest

@@ -3,15 +3,16 @@
 // doesn't settle it (crate sides). Crate sound shows that it finds exactly the sound stores.
 #![tactic(auto)]
 
-ghost use Rattle.std.specs.Prelude.{◌≡◌, true, ℕ, ◌+◌, ◌*◌, ◌≤◌, ◌<◌, length, get_or, drop};
+ghost use Rattle.std.specs.Prelude.{◌≡◌, true, ℕ, ◌+◌, ◌*◌, ◌≤◌, ◌<◌, List, length, get_or, drop};
 ghost use Rattle.board.specs.Sound.{distinct, among};
 ghost use Rattle.loops.specs.Sound.{sound_loop};
-ghost use Rattle.store.specs.Layout.{store_size, at_followed, at_base, at_queued, bids_of};
+ghost use Rattle.store.specs.Layout.{store_size, at_followed, at_base, at_queued, id_of, bids_of};
 ghost use Rattle.sides.specs.Side.{each, room_of};
 ghost use Rattle.store.specs.Meaning.{loop_at};
 ghost use Rattle.scan.specs.Scan.{heading_scan, record_scan, spread, records_scan, most_of, full_of, book_scan, books_scan, update_scan, slot_scan, queue_scan, rest_scan, scan};
 
 use sides::Limits;
+use std::marker::Model;
 
 // How many instruments and how many queued entries there are at most, as numbers of a store.
 const MOST_INSTS: u64 = store::MOST_INSTS as u64;
@@ -27,15 +28,17 @@ const MOST_ACTION: u64 = 4;
 // 290.
 const MOST_PLACE: u64 = 65535;
 
-// 37 in words of up to 8 bytes: the last word, and the first of 8 bytes.
-const MOST_WORD: u64 = 6161234432565770;
+// On an order-depth channel `by` and `more` are 37 in words of up to 8 bytes: the last word, and the first of 8 bytes.
+const ORDER_DEPTH: Limits = Limits {
+    most: 6161234432565770,
+    full: 65545047154955,
+};
 
-const FULL_WORD: u64 = 65545047154955;
-
-// 346: the most orders, and one more.
-const MOST_ORDERS: u64 = 65535;
-
-const NO_WORD: u64 = 65536;
+// On a price-depth channel `by` is 346: the most orders, and one more, so that there is no second word.
+const PRICE_DEPTH: Limits = Limits {
+    most: 65535,
+    full: 65536,
+};
 
 // The heading.
 #[tactic(auto, unfolding(crate::specs::Scan::heading_scan))]
@@ -77,28 +80,36 @@ fn instrument(store: &[u64], at: usize) -> bool
 }
 
 // The n numbers at `at`, `at` + step and so on of a run.
-#[derive(Clone, Copy)]
+#[derive(Drop)]
 struct Spread<'a> {
     run: &'a [u64],
     at: usize,
     step: usize,
     n: usize,
-    ghost within: { (k : ℕ) → k < n → at + k * step < length run.now },
+}
+
+impl<'a> Model for Spread<'a> {
+    ghost Value = { List ℕ };
+
+    ghost view = { λ s. spread s.run.now s.at s.step s.n };
+
+    ghost invariant = { λ s. (k : ℕ) → k < s.n → s.at + k * s.step < length s.run.now };
 }
 
 impl Spread<'_> {
     // The number at index i.
-    fn number(self, i: usize) -> u64
-        requires { i < self.n }
-        ensures { result ≡ get_or self.entry.run.now (self.entry.at + i * self.entry.step) 0 }
+    #[tactic(auto, using(crate::proofs::Spreads::spread_length, crate::proofs::Spreads::spread_at))]
+    fn number(&self, i: usize) -> u64
+        requires { i < length self.now }
+        ensures { result ≡ get_or self.now i 0 }
     {
         self.run[self.at + i * self.step]
     }
 
     // Whether d stands among them, from the one at the index `from` on.
-    #[tactic(auto, using(cells::proofs::Tables::tab_turn, cells::proofs::Tables::tab_end))]
-    fn holds(self, from: usize, d: u64) -> bool
-        ensures { result ≡ among d (drop from (spread self.entry.run.now self.entry.at self.entry.step self.entry.n)) }
+    #[tactic(auto, using(crate::proofs::Spreads::spread_length, crate::proofs::Spreads::left_turn, crate::proofs::Spreads::left_end))]
+    fn holds(&self, from: usize, d: u64) -> bool
+        ensures { result ≡ among d (drop from self.now) }
     {
         for j in from..self.n {
             if self.number(j) == d {
@@ -109,9 +120,9 @@ impl Spread<'_> {
     }
 
     // Whether they rise from above 0: true says that none of them stands there twice, false says nothing.
-    #[tactic(auto, using(cells::proofs::Tables::tab_turn, cells::proofs::Tables::tab_end, crate::proofs::Ascents::ascends_end, crate::proofs::Ascents::ascends_turn, crate::proofs::Ascents::ascends_distinct))]
-    fn rises(self) -> bool
-        ensures { result ≡ true → distinct (spread self.entry.run.now self.entry.at self.entry.step self.entry.n) ≡ true }
+    #[tactic(auto, using(crate::proofs::Spreads::spread_length, crate::proofs::Spreads::left_turn, crate::proofs::Spreads::left_end, crate::proofs::Ascents::ascends_end, crate::proofs::Ascents::ascends_turn, crate::proofs::Ascents::ascends_distinct))]
+    fn rises(&self) -> bool
+        ensures { result ≡ true → distinct self.now ≡ true }
     {
         let mut last = 0;
         for i in 0..self.n {
@@ -125,8 +136,16 @@ impl Spread<'_> {
     }
 }
 
+// The records of the n instruments, one by one.
+fn each_record(store: &[u64], n: usize) -> bool
+    requires { (store_size ≤ length store.now) × (n ≤ 16) }
+    ensures { result ≡ each (λ (i : ℕ). record_scan store.now (id_of i)) n }
+{
+    (0..n).all(|i| instrument(store, store::IDS + i * store::RECORD))
+}
+
 // Whether none of the n numbers at `at`, `at` + step and so on stands there twice. Ids are often followed in their order.
-#[tactic(auto, using(cells::proofs::Tables::tab_turn, cells::proofs::Tables::tab_end), unfolding(board::specs::Sound::distinct))]
+#[tactic(auto, using(crate::proofs::Spreads::spread_length, crate::proofs::Spreads::left_turn, crate::proofs::Spreads::left_end), unfolding(board::specs::Sound::distinct))]
 pub fn apart(run: &[u64], at: usize, step: usize, n: usize) -> bool
     requires { (k : ℕ) → k < n → at + k * step < length run.now }
     ensures { result ≡ distinct (spread run.now at step n) }
@@ -143,19 +162,16 @@ pub fn apart(run: &[u64], at: usize, step: usize, n: usize) -> bool
     true
 }
 
-// The records of the n instruments.
-#[tactic(auto, using(sides::proofs::Each::each_none, sides::proofs::Each::each_more), unfolding(crate::specs::Scan::records_scan))]
+// The records of the n instruments, no SecurityID twice, and what is spare before them and behind them.
+#[tactic(auto, unfolding(crate::specs::Scan::records_scan))]
 fn records(store: &[u64], n: usize) -> bool
     requires { (store_size ≤ length store.now) × (n ≤ 16) }
     ensures { result ≡ records_scan store.now n }
 {
-    if !sides::zero(store, store::HEADING_SPARE, store::HEADING_SPARE_SIZE) {
+    if !sides::zero(store, store::HEADING_SPARE, store::HEADING_SPARE_SIZE)
+        || !each_record(store, n)
+    {
         return false;
-    }
-    for i in 0..n {
-        if !instrument(store, store::IDS + i * store::RECORD) {
-            return false;
-        }
     }
     let unused = sides::zero(
         store,
@@ -170,30 +186,21 @@ fn records(store: &[u64], n: usize) -> bool
 fn limits_of(depth: u64) -> Limits
     ensures { (result.most ≡ most_of depth) × (result.full ≡ full_of depth) × (1 ≤ result.most) }
 {
-    if depth == 0 {
-        Limits {
-            most: MOST_WORD,
-            full: FULL_WORD,
-        }
-    } else {
-        Limits {
-            most: MOST_ORDERS,
-            full: NO_WORD,
-        }
-    }
+    if depth == 0 { ORDER_DEPTH } else { PRICE_DEPTH }
 }
 
-// Both sides of an instrument.
+// Both sides of instrument i.
 #[tactic(auto, unfolding(crate::specs::Scan::book_scan))]
-fn book(store: &[u64], at: usize, room: usize, limits: Limits) -> bool
-    requires { (at + 256 ≤ length store.now) × (room ≤ 20) }
-    ensures { result ≡ book_scan room limits.most limits.full store.now at }
+fn book(store: &[u64], marks: u64, i: usize, limits: Limits) -> bool
+    requires { (store_size ≤ length store.now) × (i < 16) }
+    ensures { result ≡ book_scan (room_of marks i) limits.most limits.full store.now (bids_of i) }
 {
+    let at = store::BIDS + i * store::BOOK;
+    let room = sides::room_of(marks, i);
     sides::side(store, at, room, limits) && sides::side(store, at + store::SIDE, room, limits)
 }
 
 // The books of the n instruments: all at once, or else one by one.
-#[tactic(auto, using(sides::proofs::Each::each_none, sides::proofs::Each::each_more))]
 fn each_book(store: &[u64], n: usize, marks: u64, limits: Limits) -> bool
     requires { (store_size ≤ length store.now) × (n ≤ 16) × (1 ≤ limits.most) }
     ensures { result ≡ each (λ (i : ℕ). book_scan (room_of marks i) limits.most limits.full store.now (bids_of i)) n }
@@ -201,13 +208,7 @@ fn each_book(store: &[u64], n: usize, marks: u64, limits: Limits) -> bool
     if sweep::tried(store, marks, 2 * n, limits) {
         return true;
     }
-    for i in 0..n {
-        let room = sides::room_of(marks, i);
-        if !book(store, store::BIDS + i * store::BOOK, room, limits) {
-            return false;
-        }
-    }
-    true
+    (0..n).all(|i| book(store, marks, i, limits))
 }
 
 // The books of the instruments that are followed, and what is unused behind them.

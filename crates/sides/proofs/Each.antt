@@ -1,13 +1,15 @@
 -- Laws of `each` and of a run of zeros.
 use mathlib.Core.Path.{◌≡◌, refl, sym, ap, ◌∙◌}
 use mathlib.Core.Bool.{Bool, true, false, ◌&&◌}
-use mathlib.Core.List.{List}
+use mathlib.Core.List.{List, [], ◌∷◌, ◌++◌}
 use mathlib.Core.Logic.{⊎_elim}
 use Prim.Native.Nat.{ℕ, zero, suc, ◌+◌, ◌*◌, ◌-◌, ◌/◌, ◌<◌, ◌≤◌}
 use native.Mathlib.Nat.{eq-or-lt_of_le, le_of_suc-le-suc}
 use native.Mathlib.Numerals.{add-one}
 use native.Mathlib.Omega.{arith}
 use lib.Dec.{eqb}
+use Rattle.std.specs.List.{list_all, range_with_len}
+use Rattle.std.proofs.lemmas.List.Recursion.{and_push}
 use lib.Bits.{bit_or, or_zero_l, or_add_and, and_le_r}
 use lib.ListN.{length, get_or, take, drop, length-drop}
 use lib.Seq.{get_or-take, get_or-drop, length-take-le}
@@ -127,3 +129,19 @@ part_turn xs at n i a l h =
     let x : get_or (take (at + n - at) (drop at xs)) i 0 ≡ get_or xs (at + i) 0 =
     get_or-take (at + n - at) (drop at xs) i 0 (omega arith) ∙ get_or-drop at xs i 0 in
     rw x (zero_turn xs at i a h)
+
+-- ---- numbers that `all` walks over
+
+range_more : (a n : ℕ) → range_with_len a (suc n) ≡ range_with_len a n ++ (a + n) ∷ []
+range_more a zero = let e : a ≡ a + 0 = omega arith in ap (λ (k : ℕ). k ∷ []) e
+range_more a (suc n) =
+    let e : a + 1 + n ≡ a + suc n = omega arith in
+    ap (λ (xs : List ℕ). a ∷ xs) (rw e at (range_more (a + 1) n))
+
+pub each_range : (f : ℕ → Bool) (n : ℕ) → list_all f (range_with_len 0 n) ≡ each f n
+unfolding each
+each_range f zero = refl
+each_range f (suc n) =
+    let e : 0 + n ≡ n = omega arith in
+    ap (list_all f) (range_more 0 n) ∙ and_push (list_all f) f refl (λ _ _. refl) (range_with_len 0 n) (0 + n)
+    ∙ rw (e, each_range f n) refl

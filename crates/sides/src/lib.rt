@@ -12,6 +12,7 @@ pub const MOST_SIZE: u64 = 999999999999;
 pub const MOMENTS: u64 = 320829012000000;
 
 // The limits of an entry's `by` and `more` on a depth kind: `by` is at most `most`, and `more` too, but 0 beside a `by` below `full`.
+// Kept: that `most` isn't 0 is asked by crates sweep and scan and no ghost field, since `entry`, `places` and `side` take any limits.
 #[derive(Clone, Copy)]
 pub struct Limits {
     pub most: u64,
@@ -50,6 +51,7 @@ pub fn zero(store: &[u64], at: usize, n: usize) -> bool
 }
 
 // The same of a long run: its quarters side by side, so that a join need not wait for the one before it.
+// Kept: as one run, by `zero`, the scan of a store has 15 % more instructions.
 #[tactic(auto, using(crate::proofs::Each::zero_none, crate::proofs::Each::zero_turn))]
 pub fn zeros(store: &[u64], at: usize, n: usize) -> bool
     requires { at + n ≤ length store.now }
@@ -96,7 +98,7 @@ pub fn entry(store: &[u64], at: usize, limits: Limits) -> bool
     store[at + 4] < MOMENTS
 }
 
-// n places from `at` on.
+// n places from `at` on. By `all` in place of the loop, the scan of a store has 3 % more instructions.
 #[tactic(auto, using(crate::proofs::Each::each_none, crate::proofs::Each::each_more))]
 pub fn places(store: &[u64], at: usize, n: usize, limits: Limits) -> bool
     requires { at + n * 5 ≤ length store.now }

@@ -2,7 +2,7 @@
 // compared once. Where that passes it settles every place; where it doesn't it says nothing, and crate scan tests place by place.
 #![tactic(auto)]
 
-ghost use Rattle.std.specs.Prelude.{◌≡◌, ℕ, ◌+◌, ◌-◌, ◌*◌, ◌≤◌, true, ◌&&◌, length, if◌then◌else◌, ◌==◌, nat_lt, IfSome};
+ghost use Rattle.std.specs.Prelude.{◌≡◌, ◌+◌, ◌-◌, ◌*◌, ◌≤◌, true, ◌&&◌, length, if◌then◌else◌, ◌==◌, nat_lt, IfSome};
 ghost use Rattle.store.specs.Layout.{store_size, side_spare};
 ghost use Rattle.sides.specs.Side.{all_zero};
 ghost use Rattle.sweep.specs.Quick.{Spans, fits, joined, Alone, Joins, Keeps, few_of, Sides, Settles, settled_to};
@@ -41,7 +41,7 @@ impl Columns {
     }
 }
 
-// Both by column.
+// Joined column by column.
 impl BitOr for Columns {
     type Output = Columns;
 
@@ -98,6 +98,7 @@ fn beside(by: u64, more: u64, full: u64) -> u64
 }
 
 // Those of the places at `at` and two behind it, joined by `|`.
+#[tactic(auto, using(crate::proofs::Columned::or_l, crate::proofs::Columned::or_r))]
 fn two(store: &[u64], at: usize, full: u64) -> u64
     requires { at + 15 ≤ length store.now }
     ensures { result ≡ 0 → Alone full store.now at × Alone full store.now (at + 10) }
@@ -199,6 +200,7 @@ fn few(n: usize) -> usize
 }
 
 // What is behind the n places of a side, joined by `|`.
+#[tactic(auto, using(sides::proofs::Each::or_zero))]
 fn behind(store: &[u64], at: usize, n: usize) -> u64
     requires { (at + 128 ≤ length store.now) × (n ≤ 20) }
     ensures { (result == 0) ≡ all_zero store.now (at + 1 + n * 5) (100 - n * 5) && all_zero store.now (at + side_size) side_spare }
@@ -240,6 +242,7 @@ fn sweep(
         if !sides::places(store, at + 1, few(n), limits) {
             return None;
         }
+        // Joined before the test: behind it, the scan of a store has 2 % more instructions.
         let seen = rest | behind(store, at, n);
         if (span < c.by) | (way.top < c.more) {
             return Some(Swept {
@@ -282,36 +285,33 @@ fn first_four(store: &[u64], n: usize) -> usize
 }
 
 // Words are mixed.
-fn mixed_way(most: u64) -> Way
-    requires { 1 ≤ most }
-    ensures { (full : ℕ) → Keeps result most full }
+fn mixed_way(limits: Limits) -> Way
+    requires { 1 ≤ limits.most }
+    ensures { Keeps result limits.most limits.full }
 {
     Way {
         low: 1,
-        top: most,
+        top: limits.most,
         mixed: true,
     }
 }
 
 // The way that a four suggests for all: no id has a second word; or the first word of each has 8 bytes; or they are mixed. `by` has
 // `full` taken off.
+#[tactic(auto, using(crate::proofs::Columned::limits_short))]
 fn way_like(by: u64, more: u64, limits: Limits) -> Way
     requires { 1 ≤ limits.most }
     ensures { Keeps result limits.most limits.full }
 {
-    let short = Way {
-        low: 1,
-        top: 0,
-        mixed: false,
-    };
-    if more == 0 {
-        return short;
-    }
-    if (limits.full < 1) | (limits.most < limits.full) {
-        return short;
+    if more == 0 || limits.full < 1 || limits.most < limits.full {
+        return Way {
+            low: 1,
+            top: 0,
+            mixed: false,
+        };
     }
     if limits.most - limits.full < by {
-        return mixed_way(limits.most);
+        return mixed_way(limits);
     }
     Way {
         low: limits.full,
@@ -333,6 +333,7 @@ fn way_of(store: &[u64], n: usize, limits: Limits) -> Way
 
 // Whether the first n sides are sound: in the way that the first four suggests as far as that goes, and in the mixed one from there
 // on. False says nothing.
+#[tactic(auto, using(crate::proofs::Columned::settles, crate::proofs::Columned::sides_join))]
 pub fn tried(store: &[u64], marks: u64, n: usize, limits: Limits) -> bool
     requires { (store_size ≤ length store.now) × (n ≤ 32) × (1 ≤ limits.most) }
     ensures { result ≡ true → Sides limits.most limits.full marks store.now 0 n }
@@ -342,6 +343,6 @@ pub fn tried(store: &[u64], marks: u64, n: usize, limits: Limits) -> bool
     if first == n {
         return true;
     }
-    let mixed = mixed_way(limits.most);
+    let mixed = mixed_way(limits);
     settled(sweep(store, marks, first, n, mixed, limits), first) == n
 }

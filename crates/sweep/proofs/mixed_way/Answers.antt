@@ -4,4 +4,4 @@ use Rattle.sweep.proofs.Columned.{limits_mixed}
 use Rattle.sweep.proofs.mixed_way.Goals as goal
 
 pub returns : goal.returns
-returns c full = limits_mixed _ full c.requires (omega (arith, c.ranges.most))
+returns c = limits_mixed _ _ c.requires (omega arith)

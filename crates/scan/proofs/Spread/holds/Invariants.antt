@@ -2,8 +2,7 @@
 use mathlib.Core.Path.{◌≡◌}
 use lib.ListN.{drop}
 use Rattle.board.specs.Sound.{among}
-use Rattle.scan.specs.Scan.{spread}
 use Rattle.scan.proofs.Spread.holds.Given as goal
 
 abbrev pub invariant-loop-j : goal.invariant-loop-j
-invariant-loop-j l = let s = l.self in let all = spread s.run.now s.at s.step s.n in among l.d (drop l.from all) ≡ among l.d (drop l.j all)
+invariant-loop-j l = among l.d (drop l.from l.self) ≡ among l.d (drop l.j l.self)
