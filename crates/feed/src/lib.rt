@@ -19,13 +19,10 @@ pub fn feed(store: &mut [u64], message: &[u8]) -> u64
     }
     let h = store::load_heading(store);
     let l = store::load_loop(store);
-    let mut run = [0u64; RUN];
+    let mut run = [0; RUN];
     let r = fields::read(message, h.depth, &mut run);
     let f = rounds::give(store, h, l, r, &mut run);
-    let g = f.head;
-    let row = f.row;
-    let n = g.waiting();
-    store::save_heading(store, g);
-    store::save_loop(store, row);
-    f.answer + ABOVE * (n as u64)
+    store::save_heading(store, f.head);
+    store::save_loop(store, f.row);
+    u64::from(f.answer) + ABOVE * u64::from(f.head.waiting())
 }

@@ -1,4 +1,4 @@
--- `feed::feed` meets its contract: soundness, the reader, the channel, the heading and the loop's record saved. Assumes nothing.
+-- `feed::feed` meets its contract: soundness, the reader, the channel, the heading and the loop's record saved.
 use mathlib.Core.Path.{refl, sym, ◌∙◌}
 use native.Mathlib.Omega.{arith}
 use Rattle.sound.proofs.Readers.{formed, marks, named}
@@ -28,5 +28,5 @@ overflow_add-result c =
 pub returns : goal.returns
 returns c =
     let h = sym c.sound.ensures ∙ c.if-not-sound.false in
-    rw (c.save_loop.ensures, c.save_heading.ensures)
-    (done _ _ _ c.load_heading-h.ensures _ c.load_loop-l.ensures _ _ _ c.read-r.ensures _ _ _ h c.give-f.ensures.gives _ c.waiting-n.ensures)
+    rw (c.save_loop.ensures, c.save_heading.ensures, c.from.ensures, c.from-2.ensures)
+    (done _ _ _ c.load_heading-h.ensures _ c.load_loop-l.ensures _ _ _ c.read-r.ensures _ _ _ h c.give-f.ensures.gives _ c.waiting.ensures)
