@@ -1,9 +1,10 @@
 -- What a reader leaves: its answer, and the entries in the run that its caller lends.
-use Rattle.std.specs.Prelude.{Option, Some, None}
+use Rattle.std.specs.Prelude.{Option, Some, None, Result}
 use Rattle.std.specs.Prelude.{ℕ, ◌≤◌, ◌≡◌, List, length, get_or}
 use Rattle.book.specs.declared.Update.{Update}
-use Rattle.message.specs.Message.{Told}
+use Rattle.message.specs.Message.{Told, count_in}
 use Rattle.message.specs.declared.Reading.{Reading}
+use Rattle.message.specs.declared.Refusal.{Refusal}
 use Rattle.cells.specs.Runs.{updates_in}
 
 -- The numbers of a run that 64 entries fill.
@@ -26,8 +27,8 @@ pub record Lists (o : Option (List Update)) (r : Option ℕ) (xs ys : List ℕ) 
   pub entries : (us : List Update) → o ≡ Some us → updates_in ys (length us) ≡ us
   pub run : Spared xs ys
 
--- Of a run xs that was lent: the reading, its entries in the run ys that is left, and what is spared of the run.
-pub record Reads (t : Told) (r : Reading) (xs ys : List ℕ) : Type 0 where
+-- Of a run xs that was lent: the answer, its entries in the run ys that is left, and what is spared of the run.
+pub record Reads (t : Told) (r : Result Reading Refusal) (xs ys : List ℕ) : Type 0 where
   pub reading : r ≡ t.reading
-  pub entries : updates_in ys r.count ≡ t.entries
+  pub entries : updates_in ys (count_in r) ≡ t.entries
   pub run : Spared xs ys

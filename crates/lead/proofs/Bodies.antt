@@ -11,7 +11,7 @@ use lib.ListN.{length}
 use Rattle.digits.specs.Digits.{ranged_of, whole_of, digits_of}
 use Rattle.digits.proofs.Width.{both}
 use Rattle.book.specs.declared.Update.{Update}
-use Rattle.message.specs.Message.{Head, Message, numbered, snapshot}
+use Rattle.message.specs.Message.{Head, Message, numbered, snapshot, told}
 use Rattle.message.specs.declared.Kind.{Kind}
 use Rattle.message.specs.declared.Kind.TheVariants.{Numbered, Snapshot}
 use Rattle.chain.specs.Fields.{Field, field}
@@ -27,7 +27,7 @@ use Rattle.position.specs.Positions.{first_of, low_of, firsts, entry_in}
 use Rattle.group.specs.Groups.{group_of, each, running}
 use Rattle.lead.specs.Messages.{other_of, changes_of, head_of, snapshot_of}
 use Rattle.group.specs.Listed.{ordered, grouped}
-use Rattle.lead.specs.Leads.{top_x, top_w, top_by, head_end, body_by, message_of, counted, group_said}
+use Rattle.lead.specs.Leads.{top_x, top_w, top_by, head_end, body_by, telling, told_by, counted, group_said}
 use Rattle.position.specs.declared.Top.{Top}
 
 -- ---- from 268 on
@@ -181,21 +181,21 @@ module _ (depth : ℕ) (fs : List Field) where
       (x_none v (λ n at. group_of 279 entry_x fs >>= λ es. each (entry_in_x depth) es >>= λ us. Some (numbered n at us)) h)
 
   x_answer : (n at : ℕ) (o : Option (List (List Field)))
-      → (o >>= λ es. each (entry_in_x depth) es >>= λ us. Some (numbered n at us)) ≡ listing depth (x_top n at) o >>= λ us. Some (numbered n at us)
-  unfolding listing entry_in ordered
+      → telling (o >>= λ es. each (entry_in_x depth) es >>= λ us. Some (numbered n at us)) ≡ listing depth (x_top n at) o >>= λ us. Some (told_by (x_top n at) us)
+  unfolding listing entry_in ordered told
   x_answer n at None = refl
   x_answer n at (Some es) = go (each (entry_in_x depth) es)
     where
-      go : (r : Option (List Update)) → (r >>= λ us. Some (numbered n at us)) ≡ (r >>= λ us. Some us) >>= λ us. Some (numbered n at us)
+      go : (r : Option (List Update)) → telling (r >>= λ us. Some (numbered n at us)) ≡ (r >>= λ us. Some us) >>= λ us. Some (told_by (x_top n at) us)
       go None = refl
       go (Some us) = refl
 
-  x_is : tidy (below 21) (between 4 6) (up_to 268 fs) ≡ true → (t : Top) → TopX v t → group_said depth t (onward 268 fs) ≡ changes_of depth fs
+  x_is : tidy (below 21) (between 4 6) (up_to 268 fs) ≡ true → (t : Top) → TopX v t → group_said depth t (onward 268 fs) ≡ telling (changes_of depth fs)
   unfolding changes_of below between
   x_is h t p =
       let q = p.same in
       rw (h, p.seq, p.heard, q)
-      (sym (x_answer p.n p.at (group_of 279 entry_x fs) ∙ ap (λ (o : Option (List Update)). o >>= λ us. Some (numbered p.n p.at us)) (group_from depth (x_top p.n p.at) fs)))
+      (sym (x_answer p.n p.at (group_of 279 entry_x fs) ∙ ap (λ (o : Option (List Update)). o >>= λ us. Some (told_by (x_top p.n p.at) us)) (group_from depth (x_top p.n p.at) fs)))
 
 -- ---- what stands before 268 in a W
 abbrev w_top : Head → Top
@@ -258,27 +258,27 @@ module _ (depth : ℕ) (fs : List Field) where
   w_no_top h = rw (no_head w h) (not_read (tidy named_tags head_w (up_to 268 fs)) None refl)
 
   w_answer : (h : Head) (o : Option (List (List Field)))
-      → (o >>= λ es. each (entry_in_w depth h.id) es >>= λ us. need (running firsts us) (Some (snapshot h us)))
-      ≡ listing depth (w_top h) o >>= λ us. Some (snapshot h us)
-  unfolding listing entry_in ordered
+      → telling (o >>= λ es. each (entry_in_w depth h.id) es >>= λ us. need (running firsts us) (Some (snapshot h us)))
+      ≡ listing depth (w_top h) o >>= λ us. Some (told_by (w_top h) us)
+  unfolding listing entry_in ordered told
   w_answer h None = refl
   w_answer h (Some es) = go (each (entry_in_w depth h.id) es)
     where
-      pick : (z : Bool) (us : List Update) → need z (Some (snapshot h us)) ≡ need z (Some us) >>= λ us. Some (snapshot h us)
+      pick : (z : Bool) (us : List Update) → telling (need z (Some (snapshot h us))) ≡ need z (Some us) >>= λ us. Some (told_by (w_top h) us)
       pick true us = refl
       pick false us = refl
 
       go : (r : Option (List Update))
-          → (r >>= λ us. need (running firsts us) (Some (snapshot h us))) ≡ (r >>= λ us. need (running firsts us) (Some us)) >>= λ us. Some (snapshot h us)
+          → telling (r >>= λ us. need (running firsts us) (Some (snapshot h us))) ≡ (r >>= λ us. need (running firsts us) (Some us)) >>= λ us. Some (told_by (w_top h) us)
       go None = refl
       go (Some us) = pick (running firsts us) us
 
-  w_is : tidy (below 21) (between 4 11) (up_to 268 fs) ≡ true → (t : Top) → TopW w t → group_said depth t (onward 268 fs) ≡ snapshot_of depth fs
+  w_is : tidy (below 21) (between 4 11) (up_to 268 fs) ≡ true → (t : Top) → TopW w t → group_said depth t (onward 268 fs) ≡ telling (snapshot_of depth fs)
   unfolding snapshot_of below between
   w_is e t p =
       let q = p.same in
       rw (e, p.read, q)
-      (sym (w_answer p.head (group_of 269 entry_w fs) ∙ ap (λ (o : Option (List Update)). o >>= λ us. Some (snapshot p.head us)) (group_from depth (w_top p.head) fs)))
+      (sym (w_answer p.head (group_of 269 entry_w fs) ∙ ap (λ (o : Option (List Update)). o >>= λ us. Some (told_by (w_top p.head) us)) (group_from depth (w_top p.head) fs)))
 
 -- ---- X and W
 module _ (k : Kind) (depth : ℕ) (fs : List Field) where
@@ -297,11 +297,11 @@ module _ (k : Kind) (depth : ℕ) (fs : List Field) where
       go Snapshot h = w_no_top depth fs h
 
   pub topped_body : tidy (below 21) (between 4 (head_end k)) (up_to 268 fs) ≡ true → (t : Top) → top_by k (lookup (up_to 268 fs)) ≡ Some t
-      → group_said depth t (onward 268 fs) ≡ body_by k depth fs
+      → group_said depth t (onward 268 fs) ≡ telling (body_by k depth fs)
   topped_body = go k
     where
       go : (k : Kind) → tidy (below 21) (between 4 (head_end k)) (up_to 268 fs) ≡ true → (t : Top) → top_by k (lookup (up_to 268 fs)) ≡ Some t
-          → group_said depth t (onward 268 fs) ≡ body_by k depth fs
+          → group_said depth t (onward 268 fs) ≡ telling (body_by k depth fs)
       go Numbered h t e = x_is depth fs h t (is_top_x (lookup (up_to 268 fs)) e)
       go Snapshot h t e = w_is depth fs h t (is_top_w (lookup (up_to 268 fs)) e)
 
@@ -365,8 +365,8 @@ module _ (fs : List Field) where
       (x_none y (λ n at. Some (numbered n at [])) h)
 
   pub o_is : all_tagged fs ≡ true → tidy (below 6) (between 4 6) (up_to 268 fs) ≡ true → tidy (below 6) (between 0 0) (up_to 0 (onward 268 fs)) ≡ true
-      → (t : Top) → TopX y t → other_of fs ≡ Some (message_of t [])
-  unfolding other_of below between
+      → (t : Top) → TopX y t → telling (other_of fs) ≡ Some (told_by t [])
+  unfolding other_of told below between
   o_is f h k t p =
       let q = p.same in
       rw (h, sym (rest_tidy fs f) ∙ k, p.seq, p.heard, q)

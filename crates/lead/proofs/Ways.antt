@@ -19,7 +19,7 @@ use Rattle.place.specs.Walks.{Walk}
 use Rattle.place.proofs.Walking.{walk_untidy, walk_tidy}
 use Rattle.position.specs.declared.Top.{Top}
 use Rattle.lead.specs.Messages.{other_of}
-use Rattle.lead.specs.Leads.{top_x, top_by, head_end, body_by, group_said, Leads}
+use Rattle.lead.specs.Leads.{top_x, top_by, head_end, body_by, telling, group_said, Leads}
 use Rattle.lead.specs.LeadOf.{counted_lead, group_lead, other_lead}
 use Rattle.lead.specs.declared.Lead.{Lead}
 use Rattle.lead.proofs.Leading.{leads_none, leads_alone, leads_as}
@@ -47,11 +47,11 @@ module _ (s : List ℕ) (start : ℕ) (t : Top) where
 -- ---- X and W
 module _ (k : Kind) (s : List ℕ) where
   abbrev Group : Option Lead → Type 0
-  Group l = Leads s l (group_lead k s) (λ depth. body_by k depth (left s 0))
+  Group l = Leads s l (group_lead k s) (λ depth. telling (body_by k depth (left s 0)))
 
   pub untidy_leads : {l : Option Lead} → l ≡ None → Walk s 0 268 21 4 (head_end k) no_marks None → Group l
   unfolding group_lead
-  untidy_leads q w = leads_none q (rw (sym w.exact)) (λ depth. untidy_body k depth (left s 0) (walk_untidy (omega arith) w))
+  untidy_leads q w = leads_none q (rw (sym w.exact)) (λ depth. ap telling (untidy_body k depth (left s 0) (walk_untidy (omega arith) w)))
 
   module _ {p : Place} (w : Walk s 0 268 21 4 (head_end k) no_marks (Some p)) where
     alike : top_by k (marked s p.marks) ≡ top_by k (lookup (up_to 268 (left s 0)))
@@ -59,30 +59,30 @@ module _ (k : Kind) (s : List ℕ) where
 
     pub topless_leads : {l : Option Lead} → l ≡ None → top_by k (marked s p.marks) ≡ None → Group l
     unfolding group_lead
-    topless_leads q e = leads_none q (rw (sym w.exact, e)) (λ depth. topless_body k depth (left s 0) (sym alike ∙ e))
+    topless_leads q e = leads_none q (rw (sym w.exact, e)) (λ depth. ap telling (topless_body k depth (left s 0) (sym alike ∙ e)))
 
     pub topped_leads : {l : Option Lead} {t : Top} → top_by k (marked s p.marks) ≡ Some t → Leads s l (counted_lead s p.at t) (λ depth. group_said depth t (left s p.at)) → Group l
     unfolding group_lead
     topped_leads {t = t} e h =
         let y = walk_tidy (omega arith) w in
-        leads_as h (rw (sym w.exact, e)) (λ depth. body_by k depth (left s 0))
+        leads_as h (rw (sym w.exact, e)) (λ depth. telling (body_by k depth (left s 0)))
         (λ depth. ap (group_said depth t) y.rest ∙ topped_body k depth (left s 0) y.tidy t (sym alike ∙ e))
 
 -- ---- the other types
 module _ (s : List ℕ) where
   abbrev Other : Option Lead → Type 0
-  Other l = Leads s l (other_lead s) (λ depth. other_of (left s 0))
+  Other l = Leads s l (other_lead s) (λ depth. telling (other_of (left s 0)))
 
   pub untidy_other : {l : Option Lead} → l ≡ None → Walk s 0 268 6 4 6 no_marks None → Other l
   unfolding other_lead
-  untidy_other q w = leads_none q (rw (sym w.exact)) (λ depth. o_untidy (left s 0) (walk_untidy (omega arith) w))
+  untidy_other q w = leads_none q (rw (sym w.exact)) (λ depth. ap telling (o_untidy (left s 0) (walk_untidy (omega arith) w)))
 
   module _ {p : Place} (w : Walk s 0 268 6 4 6 no_marks (Some p)) where
     pub untidy_rest : {l : Option Lead} → l ≡ None → Walk s p.at 0 6 0 0 no_marks None → Other l
     unfolding other_lead
     untidy_rest q x =
         let h : tidy (below 6) (between 0 0) (up_to 0 (onward 268 (left s 0))) ≡ false = rw (walk_tidy (omega arith) w).rest at (walk_untidy (omega arith) x) in
-        leads_none q (rw (sym w.exact, sym x.exact)) (λ depth. o_untidy_rest (left s 0) (left_tagged s 0) h)
+        leads_none q (rw (sym w.exact, sym x.exact)) (λ depth. ap telling (o_untidy_rest (left s 0) (left_tagged s 0) h))
 
     module _ {r : Place} (x : Walk s p.at 0 6 0 0 no_marks (Some r)) where
       same : top_x (marked s p.marks) ≡ top_x (lookup (up_to 268 (left s 0)))
@@ -90,12 +90,12 @@ module _ (s : List ℕ) where
 
       pub topless_other : {l : Option Lead} → l ≡ None → top_x (marked s p.marks) ≡ None → Other l
       unfolding other_lead
-      topless_other q e = leads_none q (rw (sym w.exact, sym x.exact, e)) (λ depth. o_no_top (left s 0) (sym same ∙ e))
+      topless_other q e = leads_none q (rw (sym w.exact, sym x.exact, e)) (λ depth. ap telling (o_no_top (left s 0) (sym same ∙ e)))
 
       pub topped_other : {l : Option Lead} {t : Top} → top_x (marked s p.marks) ≡ Some t → l ≡ Some (record { top = t; at = length s; count = 0 }) → Other l
       unfolding other_lead
       topped_other {t = t} e q =
           let y = walk_tidy (omega arith) w in
           let h : tidy (below 6) (between 0 0) (up_to 0 (onward 268 (left s 0))) ≡ true = rw y.rest at (walk_tidy (omega arith) x).tidy in
-          rw q (leads_alone s t (other_lead s) (λ depth. other_of (left s 0)) (rw (sym w.exact, sym x.exact, e))
+          rw q (leads_alone s t (other_lead s) (λ depth. telling (other_of (left s 0))) (rw (sym w.exact, sym x.exact, e))
           (λ depth. o_is (left s 0) (left_tagged s 0) y.tidy h t (is_top_x (lookup (up_to 268 (left s 0))) (sym same ∙ e))))

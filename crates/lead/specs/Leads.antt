@@ -1,8 +1,8 @@
 -- What stands before the entries as the code reads it, and what it leads to. Assumes nothing.
-use Rattle.std.specs.Prelude.{Option, Some, None}
-use Rattle.std.specs.Prelude.{ℕ, ◌≤◌, ◌≡◌, List, [], ◌∷◌}
+use Rattle.std.specs.Prelude.{Option, Some, None, Ok}
+use Rattle.std.specs.Prelude.{ℕ, ◌≤◌, ◌≡◌, List, [], ◌∷◌, length}
 use Rattle.book.specs.declared.Update.{Update}
-use Rattle.message.specs.Message.{Message, numbered, snapshot}
+use Rattle.message.specs.Message.{Message, Told, told}
 use Rattle.message.specs.declared.Kind.{Kind}
 use Rattle.message.specs.declared.Kind.TheVariants.{Numbered, Snapshot}
 use Rattle.digits.specs.Digits.{ranged_of}
@@ -43,35 +43,39 @@ abbrev pub body_by : Kind → ℕ → List Field → Option Message
 body_by Numbered depth fs = changes_of depth fs
 body_by Snapshot depth fs = snapshot_of depth fs
 
--- The message that what stands before its entries makes with them.
-abbrev pub message_by : Kind → Top → List Update → Message
-message_by Numbered t us = numbered t.number t.heard us
-message_by Snapshot t us =
-    snapshot (record { number = t.number; heard = t.heard; id = t.id; last = t.last; loops = t.loops }) us
+-- What is told of a message, where there is one.
+abbrev pub telling : Option Message → Option Told
+telling None = None
+telling (Some m) = Some (told m)
 
-abbrev pub message_of : Top → List Update → Message
-message_of t us = message_by t.kind t us
+-- What is told of what stands before some entries, with them.
+abbrev pub told_by : Top → List Update → Told
+told_by t us =
+    record {
+      reading = Ok (record { kind = t.kind; number = t.number; heard = t.heard; id = t.id; last = t.last; loops = t.loops; count = length us });
+      entries = us;
+    }
 
 -- The group from 268 on.
 unfoldable pub counted : ℕ → Top → List Field → Option (List Update)
 counted depth t [] = None
 counted depth t (f ∷ fs) = ranged_of 2 0 64 f.text >>= λ n. grouped depth t n fs
 
-abbrev pub group_said : ℕ → Top → List Field → Option Message
-group_said depth t fs = counted depth t fs >>= λ us. Some (message_of t us)
+abbrev pub group_said : ℕ → Top → List Field → Option Told
+group_said depth t fs = counted depth t fs >>= λ us. Some (told_by t us)
 
--- The message that is led to, on a channel of a depth kind.
-abbrev pub led : ℕ → List ℕ → Option Lead → Option Message
+-- What is told by what is led to, on a channel of a depth kind.
+abbrev pub led : ℕ → List ℕ → Option Lead → Option Told
 led depth s None = None
-led depth s (Some l) = grouped depth l.top l.count (left s l.at) >>= λ us. Some (message_of l.top us)
+led depth s (Some l) = grouped depth l.top l.count (left s l.at) >>= λ us. Some (told_by l.top us)
 
 -- 268 says at most 64.
 abbrev pub Few : Option Lead → Type 0
 Few None = Unit {0}
 Few (Some l) = l.count ≤ 64
 
--- What leads to the entries of fields is e, and the message that it leads to, on a channel of each depth kind, is f.
-pub record Leads (s : List ℕ) (l e : Option Lead) (f : ℕ → Option Message) : Type 0 where
+-- What leads to the entries of fields is e, and what it leads to, on a channel of each depth kind, is f.
+pub record Leads (s : List ℕ) (l e : Option Lead) (f : ℕ → Option Told) : Type 0 where
   pub exact : l ≡ e
   pub few : Few l
   pub says : (depth : ℕ) → led depth s l ≡ f depth

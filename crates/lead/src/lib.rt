@@ -6,7 +6,7 @@ ghost use Rattle.std.specs.Prelude.{◌≡◌};
 ghost use Rattle.chain.specs.Places.{left};
 ghost use Rattle.tags.specs.ByTag.{by_tag};
 ghost use Rattle.lead.specs.Messages.{other_of, typed_as};
-ghost use Rattle.lead.specs.Leads.{top_x, top_w, top_by, head_end, body_by, group_said, Leads};
+ghost use Rattle.lead.specs.Leads.{top_x, top_w, top_by, head_end, body_by, telling, group_said, Leads};
 ghost use Rattle.lead.specs.LeadOf.{counted_lead, group_lead, other_lead, lead_of};
 
 use chain::Step;
@@ -105,7 +105,7 @@ fn counted(s: &[u8], start: usize, top: Top) -> Option<Lead>
 
 // X and W.
 fn with_group(s: &[u8], kind: Kind) -> Option<Lead>
-    ensures { Leads s.now result (group_lead kind s.now) (λ depth. body_by kind depth (left s.now 0)) }
+    ensures { Leads s.now result (group_lead kind s.now) (λ depth. telling (body_by kind depth (left s.now 0))) }
 {
     let mut marks = tags::no_marks();
     let at = place::walk(s, 0, &mut marks, COUNT_TAG, tags::NAMED, HEAD, head_end(kind))?;
@@ -119,7 +119,7 @@ fn with_group(s: &[u8], kind: Kind) -> Option<Lead>
 
 // 0, f, y, B.
 fn other(s: &[u8]) -> Option<Lead>
-    ensures { Leads s.now result (other_lead s.now) (λ depth. other_of (left s.now 0)) }
+    ensures { Leads s.now result (other_lead s.now) (λ depth. telling (other_of (left s.now 0))) }
 {
     let mut marks = tags::no_marks();
     let at = place::walk(s, 0, &mut marks, COUNT_TAG, HEAD_X_END, HEAD, HEAD_X_END)?;
@@ -139,7 +139,7 @@ fn other(s: &[u8]) -> Option<Lead>
 
 // The fields between 35 and 10, by the type.
 pub fn typed(s: &[u8], kind: u8) -> Option<Lead>
-    ensures { Leads s.now result (lead_of kind s.now) (λ depth. typed_as depth kind (left s.now 0)) }
+    ensures { Leads s.now result (lead_of kind s.now) (λ depth. telling (typed_as depth kind (left s.now 0))) }
 {
     match kind {
         b'X' => with_group(s, Kind::Numbered),

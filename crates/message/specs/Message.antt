@@ -1,10 +1,10 @@
 -- A message as a board takes it, and the reader's answer that says it.
-use Rattle.std.specs.Prelude.{ℕ, List, [], length}
+use Rattle.std.specs.Prelude.{ℕ, List, [], Result, Ok, Err, length}
 use Rattle.book.specs.declared.Update.{Update}
 use Rattle.message.specs.declared.Refusal.{Refusal}
 use Rattle.message.specs.declared.Refusal.TheVariants.{BadFrame, BadSum, BadType, BadFields}
-use Rattle.message.specs.declared.Verdict.{Verdict}
-use Rattle.message.specs.declared.Verdict.TheVariants.{Numbered, Snapshot, Refused}
+use Rattle.message.specs.declared.Kind.{Kind}
+use Rattle.message.specs.declared.Kind.TheVariants.{Numbered, Snapshot}
 use Rattle.message.specs.declared.Reading.{Reading}
 
 -- 34, 369 and 911 end here.
@@ -34,39 +34,47 @@ answer_of BadSum = 12
 answer_of BadType = 13
 answer_of BadFields = 14
 
--- What the reader answers for a message: its numbers, and the entries that it writes into a run.
+-- What the reader answers for a message: its numbers, or why it is not read, and the entries that it writes into a run.
 pub record Told : Type 0 where
-  pub reading : Reading
+  pub reading : Result Reading Refusal
   pub entries : List Update
 
 unfoldable pub told : Message → Told
 told (numbered n at us) =
-    record { reading = record { verdict = Numbered; number = n; heard = at; id = 0; last = 0; loops = 0; count = length us }; entries = us }
+    record { reading = Ok (record { kind = Numbered; number = n; heard = at; id = 0; last = 0; loops = 0; count = length us }); entries = us }
 told (snapshot h us) =
     record {
-      reading = record {
-        verdict = Snapshot;
+      reading = Ok (record {
+        kind = Snapshot;
         number = h.number;
         heard = h.heard;
         id = h.id;
         last = h.last;
         loops = h.loops;
         count = length us;
-      };
+      });
       entries = us;
     }
-told (refused why) =
-    record { reading = record { verdict = Refused why; number = 0; heard = 0; id = 0; last = 0; loops = 0; count = 0 }; entries = [] }
+told (refused why) = record { reading = Err why; entries = [] }
 
 -- What stands before the entries of the W that a reading tells.
 abbrev pub head_in : Reading → Head
 head_in r = record { number = r.number; heard = r.heard; id = r.id; last = r.last; loops = r.loops }
 
 -- The message that a reading and its entries say.
-abbrev pub said_by : Verdict → Reading → List Update → Message
+abbrev pub said_by : Kind → Reading → List Update → Message
 said_by Numbered r us = numbered r.number r.heard us
 said_by Snapshot r us = snapshot (head_in r) us
-said_by (Refused why) r us = refused why
 
-abbrev pub said : Reading → List Update → Message
-said r us = said_by r.verdict r us
+abbrev pub says : Reading → List Update → Message
+says r us = said_by r.kind r us
+
+-- The message that the reader's answer and its entries say.
+abbrev pub said : Result Reading Refusal → List Update → Message
+said (Ok r) us = says r us
+said (Err why) us = refused why
+
+-- How many entries there are.
+abbrev pub count_in : Result Reading Refusal → ℕ
+count_in (Ok r) = r.count
+count_in (Err why) = 0

@@ -3,7 +3,7 @@
 #![tactic(auto)]
 
 ghost use Rattle.std.specs.Prelude.{◌≡◌};
-ghost use Rattle.message.specs.Message.{refused, told, answer_of};
+ghost use Rattle.message.specs.Message.{answer_of};
 ghost use Rattle.message.specs.Answers.{number_of};
 
 // 34, 369 and 911 are at most this.
@@ -96,41 +96,15 @@ pub enum Kind {
     Snapshot,
 }
 
-// How the reading ended.
-#[derive(Clone, Copy)]
-pub enum Verdict {
-    // X, 0, f, y, B: it carries a number and a time, an X entries too
-    Numbered,
-    // W
-    Snapshot,
-    Refused(Refusal),
-}
-
 // A message that was read. number is 34 and heard the moment of 52; id, last and loops are 48, 369 and 911 of a W, else 0.
 // count is how many bid, offer and J entries it has.
 #[derive(Clone, Copy)]
 pub struct Reading {
-    pub verdict: Verdict,
+    pub kind: Kind,
     pub number: u64,
     pub heard: u64,
     pub id: u64,
     pub last: u64,
     pub loops: u64,
     pub count: usize,
-}
-
-// A message that is not read.
-#[tactic(auto, unfolding(crate::specs::Message::told))]
-pub fn unread(why: Refusal) -> Reading
-    ensures { result ≡ (told (refused why)).reading }
-{
-    Reading {
-        verdict: Verdict::Refused(why),
-        number: 0,
-        heard: 0,
-        id: 0,
-        last: 0,
-        loops: 0,
-        count: 0,
-    }
 }
