@@ -4,7 +4,7 @@
 
 ghost use Rattle.std.specs.Prelude.{◌≡◌, ◌*◌, ◌≤◌, length};
 ghost use Rattle.cells.specs.Runs.{update_size, updates_in};
-ghost use Rattle.message.specs.Message.{said};
+ghost use Rattle.message.specs.Message.{says};
 ghost use Rattle.message.specs.Answers.{number_of};
 ghost use Rattle.store.specs.Layout.{store_size};
 ghost use Rattle.store.specs.Meaning.{st};
@@ -13,7 +13,7 @@ ghost use Rattle.channel.specs.Feeds.{index_in, Aims, Feeds};
 
 use cells::run::Updates;
 use heading::Heading;
-use message::{Reading, Verdict};
+use message::{Kind, Reading};
 use store::Fed;
 
 // The index of the instrument that an entry names, or 0 where it is for all.
@@ -43,7 +43,7 @@ fn aim(store: &[u64], h: Heading, run: &mut [u64], count: usize)
 // aimed where they stand.
 pub fn feed_read(store: &mut [u64], h: Heading, r: Reading, run: &mut [u64]) -> Fed
     requires { Canon (st h store.old) × (r.count * update_size ≤ length run.old) }
-    ensures feeds { Feeds (said r (updates_in run.old r.count)) (st h store.old) (number_of result.answer) (st result.head store.new) }
+    ensures feeds { Feeds (says r (updates_in run.old r.count)) (st h store.old) (number_of result.answer) (st result.head store.new) }
     ensures aims { Aims (st h store.old) r.count run.old run.new }
 {
     aim(store, h, run, r.count);
@@ -51,9 +51,8 @@ pub fn feed_read(store: &mut [u64], h: Heading, r: Reading, run: &mut [u64]) -> 
         run,
         count: r.count,
     };
-    match r.verdict {
-        Verdict::Numbered => count::number(store, h, r.number, r.heard, us),
-        Verdict::Snapshot => kept::snapshot(store, h, r, us),
-        Verdict::Refused(why) => kept::unread(h, why),
+    match r.kind {
+        Kind::Numbered => count::number(store, h, r.number, r.heard, us),
+        Kind::Snapshot => kept::snapshot(store, h, r, us),
     }
 }

@@ -5,8 +5,10 @@ use mathlib.Core.List.{List}
 use Prim.Native.Nat.{ℕ, ◌+◌, ◌*◌, ◌≤◌}
 use native.Mathlib.Omega.{arith}
 use lib.ListN.{length}
+use Rattle.std.specs.Prelude.{Result}
 use Rattle.message.specs.declared.Reading.{Reading}
-use Rattle.message.specs.Message.{Message, most_number, told, said}
+use Rattle.message.specs.declared.Refusal.{Refusal}
+use Rattle.message.specs.Message.{Message, most_number, told, said, count_in}
 use Rattle.message.specs.Laws.{Fair}
 use Rattle.message.proofs.Laws.{told_is_said, told_fits}
 use Rattle.board.specs.Board.{waiting_in}
@@ -49,25 +51,25 @@ module _ (bytes xs : List ℕ) where
   fair = fine_is_fair (board_at xs).depth m fine
 
   -- the reading is taken with the heading's depth kind; its entries stand in a run of 576 numbers
-  module _ (h : Heading) (q : h ≡ heading_at xs) (r : Reading) (run₀ run : List ℕ) (e : Reads (told (message_in h.depth bytes)) r run₀ run) where
+  module _ (h : Heading) (q : h ≡ heading_at xs) (r : Result Reading Refusal) (run₀ run : List ℕ) (e : Reads (told (message_in h.depth bytes)) r run₀ run) where
     tells : Reads (told m) r run₀ run
     unfolding board_of
     tells = rw q at e
 
-    pub says : said r (updates_in run r.count) ≡ m
+    pub says : said r (updates_in run (count_in r)) ≡ m
     says = rw (tells.entries, tells.reading) (told_is_said m fair)
 
     pub asked : (l : Loop) → l ≡ loop_at xs → sound xs ≡ true → length run₀ ≡ 576
-        → Canon (st h xs) × Sound (board_in (st h xs)) × (l.come ≤ most_number) × (r.count * 9 ≤ length run)
-        × (message_fine h.depth (said r (updates_in run r.count)) ≡ true)
+        → Canon (st h xs) × Sound (board_in (st h xs)) × (l.come ≤ most_number) × (count_in r * 9 ≤ length run)
+        × (message_fine h.depth (said r (updates_in run (count_in r))) ≡ true)
     unfolding board_of
     asked l o s w =
-        let k : r.count ≤ 64 = rw tells.reading (told_fits m fair) in
+        let k : count_in r ≤ 64 = rw tells.reading (told_fits m fair) in
         (rw q (canon xs s), rw q (board xs s), rw o (come xs s), omega (arith, k, tells.run.size, w), rw (says, q) fine)
 
-  module _ (h : Heading) (q : h ≡ heading_at xs) (l : Loop) (o : l ≡ loop_at xs) (r : Reading) (run₀ run : List ℕ)
+  module _ (h : Heading) (q : h ≡ heading_at xs) (l : Loop) (o : l ≡ loop_at xs) (r : Result Reading Refusal) (run₀ run : List ℕ)
       (e : Reads (told (message_in h.depth bytes)) r run₀ run) (a : ℕ) (row : Loop) (t : State) (s : sound xs ≡ true)
-      (f : Gives (said r (updates_in run r.count)) l (st h xs) a row t) where
+      (f : Gives (said r (updates_in run (count_in r))) l (st h xs) a row t) where
     gives : Gives m (loop_at xs) (loaded xs) a row t
     gives = rw (q, o, says h q r run₀ run e) at f
 

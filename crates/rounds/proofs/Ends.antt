@@ -1,4 +1,5 @@
 -- The end of a loop in the store, one instrument after another: what is left to do gives what is wanted.
+use Rattle.std.specs.Prelude.{Ok}
 use mathlib.Core.Path.{◌≡◌, refl, sym, ap, ◌∙◌}
 use mathlib.Core.Bool.{true, false}
 use mathlib.Core.List.{List, [], ◌∷◌}
@@ -11,7 +12,8 @@ use Rattle.cells.specs.Cells.{tab}
 use Rattle.cells.specs.Runs.{update_size, updates_in}
 use Rattle.heading.specs.Marks.{marked}
 use Rattle.message.specs.declared.Reading.{Reading}
-use Rattle.message.specs.Message.{told, said}
+use Rattle.message.specs.Message.{told, says}
+use Rattle.message.specs.declared.Kind.TheVariants.{Snapshot}
 use Rattle.board.specs.Board.{Inst, Out, no_inst}
 use Rattle.board.specs.Feed.{feed}
 use Rattle.board.specs.Calls.{Call, fed, calls}
@@ -114,20 +116,25 @@ module _ (l : Loop) (s : State) (i : ℕ) (t : State) (o : So l s i t) where
       }
 
 -- one that was not named, by the reading that the code makes, which says an empty snapshot
-said_empty : (r : Reading) (run : List ℕ) (d S : ℕ) → r ≡ (told (empty_for d S)).reading → said r (updates_in run r.count) ≡ empty_for d S
-unfolding told tab
-said_empty r run d S e = rw e
+abbrev empty_reading : ℕ → ℕ → Reading
+empty_reading d S = record { kind = Snapshot; number = 1; heard = 0; id = d; last = S; loops = 1; count = 0 }
 
-pub none_asked : (r : Reading) (d S n : ℕ) → r ≡ (told (empty_for d S)).reading → r.count * update_size ≤ n
+empty_is : (r : Reading) (d S : ℕ) → Ok r ≡ (told (empty_for d S)).reading → r ≡ empty_reading d S
 unfolding told
-none_asked r d S n e = rw e (omega arith)
+empty_is r d S e = cc
+
+said_empty : (r : Reading) (run : List ℕ) (d S : ℕ) → Ok r ≡ (told (empty_for d S)).reading → says r (updates_in run r.count) ≡ empty_for d S
+unfolding tab
+said_empty r run d S e = rw (empty_is r d S e)
+
+pub none_asked : (r : Reading) (d S n : ℕ) → Ok r ≡ (told (empty_for d S)).reading → r.count * update_size ≤ n
+none_asked r d S n e = rw (empty_is r d S e) (omega arith)
 
 pub read_turn : (l : Loop) (s : State) (i : ℕ) (t : State) → So l s i t → (r : Reading) (run : List ℕ) (a : ℕ) (u : State) → i < s.head.followed
-    → marked l.named i ≡ false → r ≡ (told (empty_for (get_or t.store (id_of i) 0) l.low)).reading
-    → Feeds (said r (updates_in run r.count)) t a u → So l s (i + 1) u
+    → marked l.named i ≡ false → Ok r ≡ (told (empty_for (get_or t.store (id_of i) 0) l.low)).reading
+    → Feeds (says r (updates_in run r.count)) t a u → So l s (i + 1) u
 read_turn l s i t o r run a u h e q f = fed_turn l s i t o a u h e (rw (said_empty r run (get_or t.store (id_of i) 0) l.low q) at f)
 
 -- and of the run it aims no entry
-pub run_stays : (r : Reading) (d S : ℕ) (s : State) (xs ys : List ℕ) → r ≡ (told (empty_for d S)).reading → Aims s r.count xs ys → ys ≡ xs
-unfolding told
-run_stays r d S s xs ys e a = none_aimed s xs ys (rw e at a)
+pub run_stays : (r : Reading) (d S : ℕ) (s : State) (xs ys : List ℕ) → Ok r ≡ (told (empty_for d S)).reading → Aims s r.count xs ys → ys ≡ xs
+run_stays r d S s xs ys e a = none_aimed s xs ys (rw (empty_is r d S e) at a)

@@ -1,10 +1,10 @@
 // A message that was read, on the channel in the store (document 02, K1): the board takes it, and then the loop of snapshots does.
 #![tactic(auto)]
 
-ghost use Rattle.std.specs.Prelude.{◌≡◌, true, ◌*◌, ◌≤◌, length};
+ghost use Rattle.std.specs.Prelude.{◌≡◌, Ok, true, ◌*◌, ◌≤◌, length};
 ghost use Rattle.cells.specs.Runs.{update_size, updates_in};
 ghost use Rattle.message.specs.Answers.{number_of};
-ghost use Rattle.message.specs.Message.{most_number, head_in, told, said};
+ghost use Rattle.message.specs.Message.{most_number, head_in, told, says, said, count_in};
 ghost use Rattle.board.specs.Ranges.{message_fine};
 ghost use Rattle.board.specs.Sound.{Sound};
 ghost use Rattle.loops.specs.Laws.{empty_for};
@@ -15,7 +15,7 @@ ghost use Rattle.rounds.specs.Rounds.{Ends, Rounds, Gives};
 
 use heading::Heading;
 use loops::Loop;
-use message::{Answer, Reading, Verdict};
+use message::{Answer, Kind, Reading, Refusal};
 
 // The heading that goes with the store, and the record of the loop behind a W.
 #[derive(Clone, Copy)]
@@ -35,10 +35,10 @@ pub struct Given {
 // An empty snapshot for the SecurityID with 369 = last.
 #[tactic(auto, unfolding(message::specs::Message::told))]
 fn empty_for(id: u64, last: u64) -> Reading
-    ensures { result ≡ (told (empty_for id last)).reading }
+    ensures { Ok result ≡ (told (empty_for id last)).reading }
 {
     Reading {
-        verdict: Verdict::Snapshot,
+        kind: Kind::Snapshot,
         number: 1,
         heard: 0,
         id,
@@ -83,24 +83,50 @@ fn looped(store: &mut [u64], h: Heading, l: Loop, r: Reading, run: &mut [u64]) -
     }
 }
 
-// The message that a reading and the entries in a run say, on the channel that the heading, the record and the store are.
-pub fn give(store: &mut [u64], h: Heading, l: Loop, r: Reading, run: &mut [u64]) -> Given
-    requires { Canon (st h store.old) × Sound (board_in (st h store.old)) × (l.come ≤ most_number) × (r.count * update_size ≤ length run.old) × (message_fine h.depth (said r (updates_in run.old r.count)) ≡ true) }
-    ensures gives { Gives (said r (updates_in run.old r.count)) l (st h store.old) (number_of result.answer) result.row (st result.head store.new) }
+// A message that was read, on the same.
+fn give_read(store: &mut [u64], h: Heading, l: Loop, r: Reading, run: &mut [u64]) -> Given
+    requires { Canon (st h store.old) × Sound (board_in (st h store.old)) × (l.come ≤ most_number) × (r.count * update_size ≤ length run.old) × (message_fine h.depth (says r (updates_in run.old r.count)) ≡ true) }
+    ensures gives { Gives (says r (updates_in run.old r.count)) l (st h store.old) (number_of result.answer) result.row (st result.head store.new) }
     ensures aims { Aims (st h store.old) r.count run.old run.new }
 {
     let f = channel::feed_read(store, h, r, run);
-    match r.verdict {
-        Verdict::Numbered | Verdict::Refused(_) => Given {
+    match r.kind {
+        Kind::Numbered => Given {
             head: f.head,
             row: l,
             answer: f.answer,
         },
-        Verdict::Snapshot => {
+        Kind::Snapshot => {
             let o = looped(store, f.head, l, r, run);
             Given {
                 head: o.head,
                 row: o.row,
+                answer: f.answer,
+            }
+        }
+    }
+}
+
+// The message that the reader's answer and the entries in a run say, on the channel that the heading, the record and the
+// store are.
+pub fn give(
+    store: &mut [u64],
+    h: Heading,
+    l: Loop,
+    r: Result<Reading, Refusal>,
+    run: &mut [u64],
+) -> Given
+    requires { Canon (st h store.old) × Sound (board_in (st h store.old)) × (l.come ≤ most_number) × (count_in r * update_size ≤ length run.old) × (message_fine h.depth (said r (updates_in run.old (count_in r))) ≡ true) }
+    ensures gives { Gives (said r (updates_in run.old (count_in r))) l (st h store.old) (number_of result.answer) result.row (st result.head store.new) }
+    ensures aims { Aims (st h store.old) (count_in r) run.old run.new }
+{
+    match r {
+        Ok(r) => give_read(store, h, l, r, run),
+        Err(why) => {
+            let f = kept::unread(h, why);
+            Given {
+                head: f.head,
+                row: l,
                 answer: f.answer,
             }
         }
