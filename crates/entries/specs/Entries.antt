@@ -4,7 +4,7 @@ use Rattle.std.specs.Prelude.{ℕ, Bool, cond, ◌&&◌, leb, eqb, length}
 use Rattle.book.specs.declared.Update.{Update}
 use Rattle.book.specs.Rules.{empty_of_all}
 use Rattle.book.specs.Sides.{no_entry}
-use Rattle.values.specs.Values.{◌>>=◌, need, Values, instrument_at, action_at, sort_at, place_at, values_of}
+use Rattle.values.specs.Values.{◌>>=◌, need, Values, instrument_of, action_at, sort_at, place_at, values_of}
 
 -- An entry says one update, or it is passed over.
 abbrev pub says : Update → Option (Option Update)
@@ -17,7 +17,7 @@ passed_over = Some None
 unfoldable pub book_entry : ℕ → ℕ → ℕ → Values → Option (Option Update)
 book_entry depth side action v =
     place_at v >>= λ place.
-    instrument_at v >>= λ id.
+    instrument_of v >>= λ id.
     cond (leb action 1) (values_of depth v) (Some no_entry) >>= λ entry.
     says (record { who = id; what = side; action = action; place = place; entry = entry })
 
@@ -35,7 +35,7 @@ empty_all v = need (absent 22 v && absent 207 v) (empties 0 empty_of_all)
 
 -- J with 48 needs 22.
 unfoldable pub empty_book : Values → Option (Option Update)
-empty_book v = cond (absent 48 v) (empty_all v) (instrument_at v >>= λ id. empties id 2)
+empty_book v = cond (absent 48 v) (empty_all v) (instrument_of v >>= λ id. empties id 2)
 
 -- An entry of an X: its 279 is checked whatever its 269.
 unfoldable pub entry_in_x : ℕ → Values → Option (Option Update)

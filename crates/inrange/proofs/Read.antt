@@ -1,5 +1,5 @@
 -- Whatever the bytes, the message that they are lies in document 01's ranges. Assumes nothing.
-use Rattle.std.specs.Prelude.{Option, Some, None}
+use Rattle.std.specs.Prelude.{Option, Some, None, Result, Ok, Err}
 use mathlib.Core.Path.{◌≡◌, refl}
 use mathlib.Core.Bool.{Bool, true, false, cond, ◌&&◌}
 use mathlib.Core.List.{List, [], ◌∷◌}
@@ -15,8 +15,9 @@ use Rattle.board.specs.Ranges.{all, within, most_number, id_fine, moment_fine, h
 use Rattle.chain.specs.Fields.{Field}
 use Rattle.frame.specs.Frames.{frame_of, body_of}
 use Rattle.frame.specs.declared.Framed.{Framed}
+use Rattle.frame.specs.declared.FrameError.{FrameError}
 use Rattle.tags.specs.Tags.{named_tags, other_tags, head_x, head_w, entry_x, entry_w, tidy, all_tidy, up_to, past, parts, lookup}
-use Rattle.values.specs.Values.{Values, seq_at, heard_at, instrument_at, last_at, loops_at, count_at}
+use Rattle.values.specs.Values.{Values, seq_at, heard_at, instrument_of, last_at, loops_at, count_at}
 use Rattle.entries.specs.Entries.{entry_in_x, entry_in_w}
 use Rattle.position.specs.Positions.{firsts}
 use Rattle.group.specs.Groups.{group_of, onto, each, running}
@@ -92,7 +93,7 @@ unfolding head_of head_fine
 head_fine_lem v =
     bind (within 1 most_number) head_fine (seq_at v) _ (whole_okay 34 10 1 most_number v)
     (λ n hn. bind moment_fine head_fine (heard_at v) _ (heard_okay v)
-    (λ at ha. bind id_fine head_fine (instrument_at v) _ (instrument_okay v)
+    (λ at ha. bind id_fine head_fine (instrument_of v) _ (instrument_okay v)
     (λ id hi. bind (within 0 most_number) head_fine (last_at v) _ (whole_okay 369 10 0 most_number v)
     (λ last hl. bind (within 1 most_number) head_fine (loops_at v) _ (whole_okay 911 10 1 most_number v)
     (λ loops ho. rw (hn, ha, hi, (both (leb 0 last) (leb last most_number) hl).1, ho))))))
@@ -135,8 +136,8 @@ pub read_in_range : ReadInRange
 unfolding message_in message_fine
 read_in_range depth s = go (frame_of s)
   where
-    go : (f : Framed) → message_fine depth (framed_as depth s f) ≡ true
-    go (Framed.Is kind from) = or_bad depth (typed_as depth kind (body_of s)) (typed_fine depth kind (body_of s))
-    go Framed.BadFrame = refl
-    go Framed.BadSum = refl
-    go Framed.BadType = refl
+    go : (f : Result Framed FrameError) → message_fine depth (framed_as depth s f) ≡ true
+    go (Ok f) = or_bad depth (typed_as depth f.kind (body_of s)) (typed_fine depth f.kind (body_of s))
+    go (Err FrameError.BadFrame) = refl
+    go (Err FrameError.BadSum) = refl
+    go (Err FrameError.BadType) = refl

@@ -20,7 +20,7 @@ use Rattle.chain.proofs.Walk.{left_on, left_no, found, walked, all_tagged}
 use Rattle.tags.specs.Tags.{named_tags, other_tags, head_x, head_w, entry_x, entry_w, has, tidy, all_tidy, up_to, past, onward, parts, lookup}
 use Rattle.tags.specs.Slots.{slot_of, below, between, marked, Holds}
 use Rattle.tags.specs.declared.Marks.{Marks}
-use Rattle.values.specs.Values.{◌>>=◌, need, Values, seq_at, heard_at, instrument_at, last_at, loops_at}
+use Rattle.values.specs.Values.{◌>>=◌, need, Values, seq_at, heard_at, instrument_of, last_at, loops_at}
 use Rattle.entries.specs.Entries.{entry_in_x, entry_in_w}
 use Rattle.entries.proofs.Same.{instrument_same}
 use Rattle.position.specs.Positions.{first_of, low_of, firsts, entry_in}
@@ -207,7 +207,7 @@ pub record TopW (v : Values) (t : Top) : Type 0 where
   pub same : t ≡ record { kind = Snapshot; number = head.number; heard = head.heard; id = head.id; last = head.last; loops = head.loops }
 
 -- the two ways to read it
-heads : (v : Values) (a b c d e : Option ℕ) → seq_at v ≡ a → heard_at v ≡ b → instrument_at v ≡ c → last_at v ≡ d → loops_at v ≡ e
+heads : (v : Values) (a b c d e : Option ℕ) → seq_at v ≡ a → heard_at v ≡ b → instrument_of v ≡ c → last_at v ≡ d → loops_at v ≡ e
     → top_w v ≡ head_of v >>= λ h. Some (w_top h)
 unfolding top_w top_x head_of
 heads v None b c d e p q r s u = rw p
@@ -218,7 +218,7 @@ heads v (Some n) (Some at) (Some id) (Some last) None p q r s u = rw (p, q, r, s
 heads v (Some n) (Some at) (Some id) (Some last) (Some loops) p q r s u = rw (p, q, r, s, u)
 
 top_head : (v : Values) → top_w v ≡ head_of v >>= λ h. Some (w_top h)
-top_head v = heads v (seq_at v) (heard_at v) (instrument_at v) (last_at v) (loops_at v) refl refl refl refl refl
+top_head v = heads v (seq_at v) (heard_at v) (instrument_of v) (last_at v) (loops_at v) refl refl refl refl refl
 
 pub is_top_w : (v : Values) {t : Top} → top_w v ≡ Some t → TopW v t
 is_top_w v {t} e = go (head_of v) refl (sym (top_head v) ∙ e)

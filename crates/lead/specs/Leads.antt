@@ -8,7 +8,7 @@ use Rattle.message.specs.declared.Kind.TheVariants.{Numbered, Snapshot}
 use Rattle.digits.specs.Digits.{ranged_of}
 use Rattle.chain.specs.Fields.{Field}
 use Rattle.chain.specs.Places.{left}
-use Rattle.values.specs.Values.{◌>>=◌, Values, seq_at, heard_at, instrument_at, last_at, loops_at}
+use Rattle.values.specs.Values.{◌>>=◌, Values, seq_at, heard_at, instrument_of, last_at, loops_at}
 use Rattle.group.specs.Listed.{grouped}
 use Rattle.position.specs.declared.Top.{Top}
 use Rattle.lead.specs.Messages.{changes_of, snapshot_of}
@@ -24,7 +24,7 @@ top_x v =
 unfoldable pub top_w : Values → Option Top
 top_w v =
     top_x v >>= λ t.
-    instrument_at v >>= λ id.
+    instrument_of v >>= λ id.
     last_at v >>= λ last.
     loops_at v >>= λ loops.
     Some (record { kind = Snapshot; number = t.number; heard = t.heard; id = id; last = last; loops = loops })

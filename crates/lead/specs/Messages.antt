@@ -5,7 +5,7 @@ use Rattle.message.specs.Message.{Head, Message, numbered, snapshot, refused}
 use Rattle.message.specs.declared.Refusal.TheVariants.{BadFields}
 use Rattle.chain.specs.Fields.{Field}
 use Rattle.tags.specs.Tags.{named_tags, other_tags, head_x, head_w, entry_x, entry_w, tidy, up_to, past, lookup}
-use Rattle.values.specs.Values.{◌>>=◌, need, Values, seq_at, heard_at, instrument_at, last_at, loops_at}
+use Rattle.values.specs.Values.{◌>>=◌, need, Values, seq_at, heard_at, instrument_of, last_at, loops_at}
 use Rattle.entries.specs.Entries.{entry_in_x, entry_in_w}
 use Rattle.position.specs.Positions.{firsts}
 use Rattle.group.specs.Groups.{group_of, each, running}
@@ -33,7 +33,7 @@ unfoldable pub head_of : Values → Option Head
 head_of v =
     seq_at v >>= λ n.
     heard_at v >>= λ heard.
-    instrument_at v >>= λ id.
+    instrument_of v >>= λ id.
     last_at v >>= λ last.
     loops_at v >>= λ loops.
     Some (record { number = n; heard = heard; id = id; last = last; loops = loops })

@@ -70,9 +70,6 @@ identified (Some id) rest = cond rest (Some id) None
 unfoldable pub instrument_of : Values → Option ℕ
 instrument_of v = identified (ranged_of 18 1 most_id (v 48)) (equal (v 22) (56 ∷ []) && bvmf (v 207))
 
-abbrev pub instrument_at : Values → Option ℕ
-instrument_at v = instrument_of v
-
 -- 269: 0 bid, 1 offer, J empty book, numbered 0, 1, 2; any other value is 3.
 unfoldable pub sort_of : List ℕ → Option ℕ
 sort_of [] = None
