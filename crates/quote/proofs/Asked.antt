@@ -1,26 +1,24 @@
 -- A quote's tests as the code makes them. Assumes nothing.
-use Rattle.std.specs.Prelude.{Some, None}
+use Rattle.std.specs.Prelude.{Err}
 use mathlib.Core.Path.{◌≡◌, refl, ap, ◌∙◌}
 use mathlib.Core.Bool.{true, false}
-use mathlib.Core.List.{List}
 use Prim.Native.Nat.{ℕ, ◌≤◌, ◌<◌}
 use lib.Dec.{leb, eqb}
 use borrow.Author.Tests.{le-leb, lt-leb, eq-eqb, ne_eqb, ltb-true}
 use lib.ListN.{length}
 use Rattle.heading.specs.Marks.{marked}
-use Rattle.board.specs.Board.{Inst, Board, at, look}
-use Rattle.board.specs.Ranges.{id_fine}
+use Rattle.board.specs.Board.{Inst, at}
 use Rattle.board.specs.Sound.{heard_fine}
-use Rattle.moment.specs.Moments.{moments, moment_of}
+use Rattle.moment.specs.Moments.{moments}
 use Rattle.book.specs.Canonical.{held_in}
 use Rattle.cells.specs.Cells.{side_at}
 use Rattle.moment.specs.Ages.{age_of}
 use Rattle.store.specs.Layout.{bids_of, offers_of}
 use Rattle.store.specs.Meaning.{State, board_in, board_of, inst_at}
 use Rattle.store.proofs.Decode.{insts_length, at_board}
-use Rattle.quote.specs.Quotes.{most_limit, top_of, aged_by, quote_at, quote_of}
+use Rattle.quote.specs.Quotes.{top_of, aged_by, quote_at}
 use Rattle.quote.specs.declared.Quote.{Quote}
-use Rattle.quote.specs.declared.Quoted.{Quoted}
+use Rattle.quote.specs.declared.NoQuote.{NoQuote}
 
 -- what a quote of the instrument at i gives
 abbrev pub told : State → ℕ → Quote
@@ -33,7 +31,7 @@ told s i =
     }
 
 module _ (s : State) (i time limit : ℕ) where
-  pub not_followed : s.head.followed ≤ i → quote_at i time limit (board_in s) ≡ Quoted.NotFollowed
+  pub not_followed : s.head.followed ≤ i → quote_at i time limit (board_in s) ≡ Err NoQuote.NotFollowed
   not_followed h = let e : leb (length (board_in s).insts) i ≡ true = rw (insts_length s) (le-leb s.head.followed i h) in rw e
 
   followed_by : i < s.head.followed → leb (length (board_in s).insts) i ≡ false
@@ -43,14 +41,14 @@ module _ (s : State) (i time limit : ℕ) where
   unfolding inst_at
   waits_at h = ap (λ (x : Inst). x.waiting) (at_board i s h)
 
-  pub is_waiting : i < s.head.followed → marked s.head.marks i ≡ true → quote_at i time limit (board_in s) ≡ Quoted.Waiting
+  pub is_waiting : i < s.head.followed → marked s.head.marks i ≡ true → quote_at i time limit (board_in s) ≡ Err NoQuote.Waiting
   is_waiting h w = let e : (at i (board_in s)).waiting ≡ true = waits_at h ∙ w in rw (followed_by h, e)
 
   number_is : (board_in s).H ≡ s.head.number
   unfolding board_of
   number_is = refl
 
-  pub nothing_heard : i < s.head.followed → marked s.head.marks i ≡ false → s.head.number ≡ 0 → quote_at i time limit (board_in s) ≡ Quoted.NothingHeard
+  pub nothing_heard : i < s.head.followed → marked s.head.marks i ≡ false → s.head.number ≡ 0 → quote_at i time limit (board_in s) ≡ Err NoQuote.NothingHeard
   nothing_heard h w z =
       let e : (at i (board_in s)).waiting ≡ false = waits_at h ∙ w in
       let n : eqb (board_in s).H 0 ≡ true = rw number_is (eq-eqb s.head.number 0 z) in
@@ -66,22 +64,3 @@ module _ (s : State) (i time limit : ℕ) where
 -- where something is heard, its time is a moment
 pub heard_held : (n heard : ℕ) → (n ≡ 0 → ⊥) → heard_fine n heard ≡ true → heard < moments
 heard_held n heard z h = ltb-true heard moments (rw (ne_eqb n 0 z) at h)
-
--- the arguments' tests
-module _ (id time limit : ℕ) (b : Board) (text : List ℕ) where
-  pub no_moment : moment_of text ≡ None → quote_of id text limit b ≡ Quoted.BadArgument
-  unfolding quote_of
-  no_moment e = rw e
-
-  module _ (read : moment_of text ≡ Some time) where
-    pub no_id : id_fine id ≡ false → quote_of id text limit b ≡ Quoted.BadArgument
-    unfolding quote_of
-    no_id e = rw (read, e)
-
-    pub long_limit : id_fine id ≡ true → most_limit < limit → quote_of id text limit b ≡ Quoted.BadArgument
-    unfolding quote_of
-    long_limit e k = rw (read, e, lt-leb limit most_limit k)
-
-    pub good : id_fine id ≡ true → limit ≤ most_limit → quote_of id text limit b ≡ quote_at (look id b.insts) time limit b
-    unfolding quote_of
-    good e k = rw (read, e, le-leb limit most_limit k)

@@ -2,30 +2,15 @@
 use mathlib.Core.Path.{◌≡◌, refl}
 use mathlib.Core.Bool.{false}
 use lib.Dec.{eqb}
-use Rattle.quote.specs.Quotes.{if_quoted, quote_number}
-use Rattle.quote.specs.declared.Quote.{Quote}
-use Rattle.quote.specs.declared.Quoted.{Quoted}
+use Rattle.quote.specs.declared.NoQuote.{NoQuote}
+use Rattle.quote.specs.Numbers.{refusal_number}
 
--- that it is not given, as a let-else tells it
-abbrev pub NotGiven : Quoted → Type 0
-NotGiven q = (x : Quote) → q ≡ Quoted.Is x → ⊥
-
-pub refused_number : (q : Quoted) → NotGiven q → eqb (quote_number q) 0 ≡ false
-refused_number (Quoted.Is q) h = absurd (h q refl)
-refused_number Quoted.Unsound h = refl
-refused_number Quoted.BadArgument h = refl
-refused_number Quoted.NotFollowed h = refl
-refused_number Quoted.Waiting h = refl
-refused_number Quoted.NothingHeard h = refl
-refused_number Quoted.BeforeHeard h = refl
-refused_number Quoted.TooOld h = refl
-
-pub refused_is : {A : Type 0} (f : Quote → A) (z : A) (q : Quoted) → NotGiven q → if_quoted f z q ≡ z
-refused_is f z (Quoted.Is q) h = absurd (h q refl)
-refused_is f z Quoted.Unsound h = refl
-refused_is f z Quoted.BadArgument h = refl
-refused_is f z Quoted.NotFollowed h = refl
-refused_is f z Quoted.Waiting h = refl
-refused_is f z Quoted.NothingHeard h = refl
-refused_is f z Quoted.BeforeHeard h = refl
-refused_is f z Quoted.TooOld h = refl
+-- no refusal's number is 0
+pub refused_number : (why : NoQuote) → eqb (refusal_number why) 0 ≡ false
+refused_number NoQuote.Unsound = refl
+refused_number NoQuote.BadArgument = refl
+refused_number NoQuote.NotFollowed = refl
+refused_number NoQuote.Waiting = refl
+refused_number NoQuote.NothingHeard = refl
+refused_number NoQuote.BeforeHeard = refl
+refused_number NoQuote.TooOld = refl
