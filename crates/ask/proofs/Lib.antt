@@ -1,6 +1,5 @@
 pub mod Facts
 pub mod States
-pub mod Signs
 pub mod Words
 pub mod Quoting
 pub mod Laws

@@ -1,14 +1,14 @@
--- A quote of a sound board can be written, and its answers test by test.
-use Rattle.std.specs.Prelude.{Option, Some, None}
-use mathlib.Core.Path.{◌≡◌, refl, ◌∙◌}
+-- A quote of a sound board can be written. Assumes nothing.
+use Rattle.std.specs.Prelude.{Option, Some, None, Ok, Err}
+use mathlib.Core.Path.{◌≡◌, refl}
 use mathlib.Core.Bool.{Bool, true, false, cond, ◌&&◌}
 use mathlib.Core.List.{List, [], ◌∷◌}
-use Prim.Native.Nat.{ℕ, ◌*◌, ◌≤◌, ◌<◌}
+use Prim.Native.Nat.{ℕ, ◌*◌, ◌<◌}
 use lib.Dec.{leb, eqb}
 use lib.IntN.{pos}
 use lib.Signed.{lt_z}
 use lib.ListN.{length}
-use borrow.Author.Tests.{le-leb, lt-leb, leb-false, eqb-false}
+use borrow.Author.Tests.{leb-false, eqb-false}
 use Rattle.moment.specs.Moments.{moments, moment_of}
 use Rattle.moment.specs.Ages.{age_of}
 use Rattle.book.specs.Canonical.{All}
@@ -18,12 +18,11 @@ use Rattle.board.specs.Ranges.{id_fine, entry_fine}
 use Rattle.board.specs.Sound.{Sound, SoundInst}
 use Rattle.board.proofs.Tested.{entry_sound}
 use Rattle.board.proofs.Each.{each_at}
-use Rattle.store.specs.Meaning.{board_at}
-use Rattle.sound.specs.Sound.{sound}
 use Rattle.quote.specs.Quotes.{most_limit, top_of, given, quote_at, at_now, quote_of}
-use Rattle.quote.specs.declared.Quoted.{Quoted}
+use Rattle.quote.specs.declared.NoQuote.{NoQuote}
+use Rattle.quote.specs.Quotes.{Quoted}
 use Rattle.quote.proofs.Asked.{heard_held}
-use Rattle.ask.specs.Ask.{room_after, quote_number, quote_values, quote_answer, quote_out, Asked}
+use Rattle.ask.specs.Ask.{room_after, quote_values}
 use Rattle.ask.specs.Fine.{FineTop, FineQuote, FineQuoted}
 
 -- ---- every moment is in range
@@ -50,7 +49,7 @@ module _ (b : Board) (s : Sound b) where
       go (leb (length b.insts) i) (at i b).waiting (eqb b.H 0) (lt_z (age_of time b.heard) (pos 0)) (lt_z (pos (limit * 1000)) (age_of time b.heard)) refl refl
     where
       go : (f w n k o : Bool) → leb (length b.insts) i ≡ f → eqb b.H 0 ≡ n
-          → FineQuoted (cond f Quoted.NotFollowed (cond w Quoted.Waiting (cond n Quoted.NothingHeard (cond k Quoted.BeforeHeard (cond o Quoted.TooOld (Quoted.Is (given b (at i b))))))))
+          → FineQuoted (cond f (Err NoQuote.NotFollowed) (cond w (Err NoQuote.Waiting) (cond n (Err NoQuote.NothingHeard) (cond k (Err NoQuote.BeforeHeard) (cond o (Err NoQuote.TooOld) (Ok (given b (at i b))))))))
       go true w n k o p q = tt
       go false true n k o p q = tt
       go false false true k o p q = tt
@@ -62,34 +61,13 @@ module _ (b : Board) (s : Sound b) where
   now_fine None id limit = tt
   now_fine (Some time) id limit = go (id_fine id && leb limit most_limit)
     where
-      go : (t : Bool) → FineQuoted (cond t (quote_at (look id b.insts) time limit b) Quoted.BadArgument)
+      go : (t : Bool) → FineQuoted (cond t (quote_at (look id b.insts) time limit b) (Err NoQuote.BadArgument))
       go true = at_fine (look id b.insts) time limit
       go false = tt
 
   pub quoted_fine : (id : ℕ) (now : List ℕ) (limit : ℕ) → FineQuoted (quote_of id now limit b)
   unfolding quote_of
   quoted_fine id now limit = now_fine (moment_of now) id limit
-
--- ---- the answers
-
-module _ (id : ℕ) (now : List ℕ) (limit : ℕ) (room xs : List ℕ) where
-  pub unsound : sound xs ≡ false → Asked id now limit room xs 17 room
-  unfolding quote_answer quote_out
-  unsound s = record { answer = rw s; out = rw s }
-
-  module _ (s : sound xs ≡ true) where
-    pub short : length room < 17 → Asked id now limit room xs 18 room
-    unfolding quote_answer quote_out
-    short h = let e = lt-leb 17 (length room) h in record { answer = rw (s, e); out = rw (s, e) }
-
-    pub asked : 17 ≤ length room → (r : ℕ) → r ≡ quote_number (quote_of id now limit (board_at xs))
-        → Asked id now limit room xs r (room_after r (quote_values (board_at xs).depth (quote_of id now limit (board_at xs))) room)
-    unfolding quote_answer quote_out
-    asked h r n = let e = le-leb 17 (length room) h in record { answer = n ∙ rw (s, e); out = rw (s, e, n) }
-
--- a refusal leaves the room
-pub stays : (depth r : ℕ) (q : Quoted) (room : List ℕ) → r ≡ quote_number q → eqb (quote_number q) 0 ≡ false → room ≡ room_after r (quote_values depth q) room
-stays depth r q room e h = rw (e, h)
 
 -- the room after a quote, by its depth kind and the quote
 pub room_by : (answer : ℕ) (room : List ℕ) {d k : ℕ} {q p : Quoted} → d ≡ k → q ≡ p → room_after answer (quote_values d q) room ≡ room_after answer (quote_values k p) room

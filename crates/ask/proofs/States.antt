@@ -1,6 +1,6 @@
 -- An instrument's state as the store has it.
 use mathlib.Core.Path.{◌≡◌, ap, ◌∙◌}
-use mathlib.Core.Bool.{true, false, cond}
+use mathlib.Core.Bool.{true, cond}
 use mathlib.Core.List.{List, [], ◌∷◌}
 use Prim.Native.Nat.{ℕ, ◌≤◌, ◌<◌}
 use native.Mathlib.Omega.{arith}
@@ -35,20 +35,8 @@ state_is s i f h =
 
 -- the answers, test by test
 module _ (id : ℕ) (room xs : List ℕ) where
-  pub unsound : sound xs ≡ false → Stated id room xs 17 room
-  unfolding state_answer state_out
-  unsound s = record { answer = rw s; out = rw s }
-
   module _ (s : sound xs ≡ true) where
-    pub short : length room < 4 → Stated id room xs 18 room
-    unfolding state_answer state_out
-    short h = let e = lt-leb 4 (length room) h in record { answer = rw (s, e); out = rw (s, e) }
-
     module _ (long : 4 ≤ length room) where
-      pub no_id : id_fine id ≡ false → Stated id room xs 18 room
-      unfolding state_answer state_out
-      no_id e = let l = le-leb 4 (length room) long in record { answer = rw (s, l, e); out = rw (s, l, e) }
-
       module _ (fine : id_fine id ≡ true) where
         pub not_followed : length (board_at xs).insts ≤ look id (board_at xs).insts → Stated id room xs 20 room
         unfolding state_answer state_out

@@ -1,5 +1,5 @@
 -- What a caller asks of a store, and the numbers that answer it (document 01, "Quote and writing" and "Answer numbers").
-use Rattle.std.specs.Prelude.{◌≡◌, cond, ◌&&◌, List, [], ◌∷◌, ◌++◌, ℕ, ◌+◌, ◌-◌, ◌^◌, leb, eqb, ℤ, pos, negsuc, length}
+use Rattle.std.specs.Prelude.{Option, Some, None, ◌≡◌, cond, ◌&&◌, List, [], ◌∷◌, ◌++◌, ℕ, ◌+◌, ◌-◌, ◌^◌, leb, eqb, ℤ, pos, negsuc, length}
 use Rattle.std.proofs.lemmas.List.Edits.{sets}
 use Rattle.calendar.specs.Calendar.{date_number}
 use Rattle.moment.specs.Moments.{day_part, time_part, time_number}
@@ -10,10 +10,8 @@ use Rattle.board.specs.Ranges.{id_fine}
 use Rattle.cells.specs.Cells.{zeros}
 use Rattle.store.specs.Meaning.{board_at}
 use Rattle.sound.specs.Sound.{sound}
-use Rattle.quote.specs.declared.Top.{Top}
 use Rattle.quote.specs.declared.Quote.{Quote}
-use Rattle.quote.specs.declared.Quoted.{Quoted}
-use Rattle.quote.specs.Quotes.{quote_of, if_quoted}
+use Rattle.quote.specs.Quotes.{Quoted, quote_of, if_quoted}
 pub use Rattle.quote.specs.Quotes.{quote_number}
 
 -- With 0 the values stand at the start of the room; a refusal writes nothing there.
@@ -45,9 +43,9 @@ abbrev pub entry_words : ℕ → Entry → List ℕ
 entry_words depth e = 1 ∷ bits_of e.price ∷ e.size ∷ by_words depth e.by e.more ++ moment_words e.moment
 
 -- An empty side is seven zeros.
-abbrev pub top_words : ℕ → Top → List ℕ
-top_words depth (Top.Held e) = entry_words depth e
-top_words depth Top.Empty = zeros 7
+abbrev pub top_words : ℕ → Option Entry → List ℕ
+top_words depth (Some e) = entry_words depth e
+top_words depth None = zeros 7
 
 -- H, the moment at which it was heard, the bid, the offer.
 abbrev pub quote_words : ℕ → Quote → List ℕ

@@ -2,7 +2,7 @@
 use Rattle.std.specs.Prelude.{◌≡◌, false, List, ℕ, eqb}
 use Rattle.cells.specs.Cells.{zeros}
 use Rattle.sound.specs.Settled.{Settled}
-use Rattle.quote.specs.declared.Quoted.{Quoted}
+use Rattle.quote.specs.Quotes.{Quoted}
 use Rattle.ask.specs.Ask.{quote_size, quote_number, quote_values, Asked, Stated}
 
 -- A refused quote carries zeros.

@@ -2,7 +2,7 @@
 // that the caller lends (document 01, "Quote and writing"). A refusal writes nothing there.
 #![tactic(auto)]
 
-ghost use Rattle.std.specs.Prelude.{◌≡◌, true, cond, ◌+◌, ◌≤◌, ◌<◌, length};
+ghost use Rattle.std.specs.Prelude.{◌≡◌, true, ◌+◌, ◌≤◌, ◌<◌, length};
 ghost use Rattle.std.proofs.lemmas.List.Edits.{sets};
 ghost use Rattle.moment.specs.Moments.{moments};
 ghost use Rattle.board.specs.Board.{at};
@@ -15,7 +15,7 @@ ghost use Rattle.ask.specs.Fine.{FineTop, FineQuote, FineQuoted};
 
 use book::Entry;
 use heading::Heading;
-use quote::{Quote, Quoted, Top};
+use quote::{NoQuote, Quote};
 
 // The numbers of a quote, of one of its sides, and of a state.
 const QUOTE: usize = 17;
@@ -24,17 +24,12 @@ const TOP: usize = 7;
 
 const STATE: usize = 4;
 
-// The greatest number of 64 bits.
-const MOST_BITS: u64 = 18446744073709551615;
-
 // A price or a sum as its 64 bits, two's complement.
+#[tactic(auto, unfolding(crate::specs::Ask::bits_of))]
 pub fn bits(p: i64) -> u64
     ensures { result ≡ bits_of p }
 {
-    if p < 0 {
-        return MOST_BITS - ((-1 - p) as u64);
-    }
-    p as u64
+    p.cast_unsigned()
 }
 
 // A moment's date and time of day.
@@ -73,15 +68,14 @@ fn put_entry(out: &mut [u64], at: usize, depth: u64, e: Entry)
 }
 
 // Place 1 of a side, or zeros.
-fn put_top(out: &mut [u64], at: usize, depth: u64, t: Top)
+fn put_top(out: &mut [u64], at: usize, depth: u64, t: Option<Entry>)
     requires { (at + 7 ≤ length out.old) × FineTop t }
     ensures { out.new ≡ sets out.old at (top_words depth t) }
 {
-    let Top::Held(e) = t else {
-        cells::zero_run(out, at, TOP);
-        return;
-    };
-    put_entry(out, at, depth, e);
+    match t {
+        Some(e) => put_entry(out, at, depth, e),
+        None => cells::zero_run(out, at, TOP),
+    }
 }
 
 // A quote's 17 numbers.
@@ -89,25 +83,25 @@ fn put_quote(out: &mut [u64], depth: u64, q: Quote)
     requires { (quote_size ≤ length out.old) × FineQuote q }
     ensures { out.new ≡ sets out.old 0 (quote_words depth q) }
 {
-    let b = q.bid;
-    let o = q.offer;
     out[0] = q.number;
     put_moment(out, 1, q.heard);
-    put_top(out, 3, depth, b);
-    put_top(out, 3 + TOP, depth, o);
+    put_top(out, 3, depth, q.bid);
+    put_top(out, 3 + TOP, depth, q.offer);
 }
 
 // Document 01's number of a quote, with its numbers in the room.
-fn tell(out: &mut [u64], depth: u64, q: Quoted) -> u64
+fn tell(out: &mut [u64], depth: u64, q: Result<Quote, NoQuote>) -> u64
     requires { (quote_size ≤ length out.old) × FineQuoted q }
     ensures value { result ≡ quote_number q }
     ensures out_after { out.new ≡ room_after result (quote_values depth q) out.old }
 {
-    let Quoted::Is(x) = q else {
-        return quote::number(q);
-    };
-    put_quote(out, depth, x);
-    store::DONE
+    match q {
+        Ok(x) => {
+            put_quote(out, depth, x);
+            store::DONE
+        }
+        Err(why) => u64::from(why),
+    }
 }
 
 // A quote of a sound store into room that is long enough.
@@ -121,8 +115,10 @@ fn quote_into(store: &[u64], id: u64, time: &[u8], limit: u64, out: &mut [u64]) 
     tell(out, h.depth, q)
 }
 
+// Kept: a number and no Result, since `selkavorn_quote` alone calls it, for C, and `Asked` says document 01's number.
 // The dated quote of the instrument with this SecurityID, now a date and time shaped as tag 52, the limit in seconds: 17, 18,
 // 20 to 24, else 0 and 17 numbers at the start of the room.
+#[tactic(auto, unfolding(crate::specs::Ask::quote_answer, crate::specs::Ask::quote_out))]
 pub fn quote(store: &[u64], id: u64, time: &[u8], limit: u64, out: &mut [u64]) -> u64
     ensures { Asked id time.now limit out.old store.now result out.new }
 {
@@ -135,27 +131,20 @@ pub fn quote(store: &[u64], id: u64, time: &[u8], limit: u64, out: &mut [u64]) -
     quote_into(store, id, time, limit, out)
 }
 
-fn one_if(t: bool) -> u64
-    ensures { result ≡ cond t 1 0 }
-{
-    if t {
-        return 1;
-    }
-    0
-}
-
 // The state of the instrument at index i.
 fn put_state(store: &[u64], h: Heading, i: usize, out: &mut [u64])
     requires { Formed (st h store.now) × (i < h.followed) × (4 ≤ length out.old) }
     ensures { out.new ≡ sets out.old 0 (state_words (at i (board_in (st h store.now)))) }
 {
-    out[0] = one_if(h.waits(i));
+    out[0] = u64::from(h.waits(i));
     out[1] = store[store::REASONS + i * store::RECORD];
     out[2] = store[store::BIDS + i * store::BOOK];
     out[3] = store[store::OFFERS + i * store::BOOK];
 }
 
+// Kept: a number and no Result, since `selkavorn_state` alone calls it, for C, and `Stated` says document 01's number.
 // The state of the instrument with this SecurityID: 17, 18, 20, else 0 and 4 numbers at the start of the room.
+#[tactic(auto, unfolding(crate::specs::Ask::state_answer, crate::specs::Ask::state_out))]
 pub fn state(store: &[u64], id: u64, out: &mut [u64]) -> u64
     ensures { Stated id out.old store.now result out.new }
 {

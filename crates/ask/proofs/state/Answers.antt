@@ -7,24 +7,8 @@ use Rattle.store.specs.Meaning.{st, board_at, loaded}
 use Rattle.store.specs.Canon.{Formed}
 use Rattle.store.proofs.Decode.{insts_length}
 use Rattle.sound.proofs.Readers.{formed, marks}
-use Rattle.ask.proofs.States.{unsound, short, no_id, not_followed, stated}
+use Rattle.ask.proofs.States.{not_followed, stated}
 use Rattle.ask.proofs.state.Goals as goal
-
-pub returns-then-not-sound : goal.returns-then-not-sound
-returns-then-not-sound c =
-    let x = c.args in
-    unsound x.id x.out.now x.store.now (sym c.sound.ensures ∙ c.if-not-sound.true)
-
-pub returns-then-out-lt-STATE : goal.returns-then-out-lt-STATE
-returns-then-out-lt-STATE c =
-    let x = c.args in
-    short x.id x.out.now x.store.now (sym c.sound.ensures ∙ c.if-not-sound.false) c.if-out-lt-STATE.true
-
-pub returns-then-not-is_id : goal.returns-then-not-is_id
-returns-then-not-is_id c =
-    let x = c.args in
-    no_id x.id x.out.now x.store.now (sym c.sound.ensures ∙ c.if-not-sound.false) c.if-out-lt-STATE.false
-    (sym c.is_id.ensures ∙ c.if-not-is_id.true)
 
 pub load_heading-h-requires : goal.load_heading-h-requires
 load_heading-h-requires c =
