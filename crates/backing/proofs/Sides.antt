@@ -1,8 +1,8 @@
 -- The side behind a quote, refused and given. Assumes nothing.
-use Rattle.std.specs.Prelude.{Option, Some, None}
-use mathlib.Core.Path.{◌≡◌, refl, sym, ap, ◌∙◌}
+use Rattle.std.specs.Prelude.{Option, Some, None, Result, Ok, Err, IsErrAnd}
+use mathlib.Core.Path.{◌≡◌, refl, sym, ap}
 use mathlib.Core.Bool.{Bool, true, false, cond, ◌&&◌}
-use mathlib.Core.List.{List, []}
+use mathlib.Core.List.{List}
 use Prim.Native.Nat.{ℕ, ◌<◌}
 use native.Mathlib.Omega.{arith}
 use lib.Dec.{leb}
@@ -10,9 +10,7 @@ use lib.ListN.{length}
 use borrow.Author.Tests.{leb-false}
 use Rattle.moment.specs.Moments.{moment_of}
 use Rattle.book.specs.declared.Side.{Side}
-use Rattle.book.specs.Sides.{no_side}
 use Rattle.book.specs.Canonical.{Kept, held_in}
-use Rattle.book.proofs.Canon.{kept_of, no_side_is}
 use Rattle.cells.specs.Cells.{side_at}
 use Rattle.board.specs.Board.{Inst, Board, look, at}
 use Rattle.board.specs.Ranges.{id_fine}
@@ -21,66 +19,53 @@ use Rattle.store.specs.Meaning.{inst_at, board_at, loaded}
 use Rattle.store.proofs.Decode.{insts_length, at_board}
 use Rattle.sound.specs.Sound.{sound}
 use Rattle.sound.proofs.Readers.{formed}
-use Rattle.quote.specs.Quotes.{most_limit, quote_at, at_now, quote_of}
+use Rattle.quote.specs.Quotes.{Quoted, most_limit, quote_at, at_now, quote_of}
 use Rattle.quote.specs.declared.Quote.{Quote}
-use Rattle.quote.specs.declared.Quoted.{Quoted}
-use Rattle.quote.proofs.Refused.{NotGiven, refused_is}
+use Rattle.quote.specs.declared.NoQuote.{NoQuote}
 use Rattle.backing.specs.Backing.{quoted_of, side_for, behind, Backs}
+use Rattle.backing.specs.declared.Backed.{Backed}
 
 -- ---- a quote that is given is of an instrument that is followed
-never : {r : Quoted} {q : Quote} → r ≡ Quoted.Is q → r ≡ Quoted.NotFollowed → ⊥
+never : {r : Quoted} {q : Quote} → r ≡ Ok q → r ≡ (Err NoQuote.NotFollowed) → ⊥
 never e f = let z : ◌≡◌ {A = ℕ} 0 1 = cc in omega arith
 
-never_bad : {r : Quoted} {q : Quote} → r ≡ Quoted.Is q → r ≡ Quoted.BadArgument → ⊥
+never_bad : {r : Quoted} {q : Quote} → r ≡ Ok q → r ≡ (Err NoQuote.BadArgument) → ⊥
 never_bad e f = let z : ◌≡◌ {A = ℕ} 0 1 = cc in omega arith
 
-followed_at : (i now limit : ℕ) (b : Board) (q : Quote) → quote_at i now limit b ≡ Quoted.Is q → i < length b.insts
+followed_at : (i now limit : ℕ) (b : Board) (q : Quote) → quote_at i now limit b ≡ Ok q → i < length b.insts
 followed_at i now limit b q e = go (leb (length b.insts) i) refl
   where
     go : (t : Bool) → leb (length b.insts) i ≡ t → i < length b.insts
     go true w = absurd (never e (rw w))
     go false w = leb-false (length b.insts) i w
 
-followed : (id : ℕ) (now : List ℕ) (limit : ℕ) (b : Board) (q : Quote) → quote_of id now limit b ≡ Quoted.Is q → look id b.insts < length b.insts
+followed : (id : ℕ) (now : List ℕ) (limit : ℕ) (b : Board) (q : Quote) → quote_of id now limit b ≡ Ok q → look id b.insts < length b.insts
 unfolding quote_of
 followed id now limit b q e = by_moment (moment_of now) e
   where
-    by_test : (m : ℕ) (t : Bool) → cond t (quote_at (look id b.insts) m limit b) Quoted.BadArgument ≡ Quoted.Is q → look id b.insts < length b.insts
+    by_test : (m : ℕ) (t : Bool) → cond t (quote_at (look id b.insts) m limit b) (Err NoQuote.BadArgument) ≡ Ok q → look id b.insts < length b.insts
     by_test m true w = followed_at (look id b.insts) m limit b q w
     by_test m false w = absurd (never_bad w refl)
 
-    by_moment : (m : Option ℕ) → at_now m id limit b ≡ Quoted.Is q → look id b.insts < length b.insts
+    by_moment : (m : Option ℕ) → at_now m id limit b ≡ Ok q → look id b.insts < length b.insts
     by_moment None w = absurd (never_bad w refl)
     by_moment (Some m) w = by_test m (id_fine id && leb limit most_limit) w
 
--- ---- refused
-
--- a side that holds nothing
-no_side_kept : Kept no_side
-no_side_kept = rw no_side_is (kept_of [] (omega arith))
-
 module _ (buying : Bool) (id : ℕ) (now : List ℕ) (limit : ℕ) (xs : List ℕ) where
-  pub unsound : sound xs ≡ false → Backs buying id now limit xs (record { quoted = Quoted.Unsound; side = no_side })
+  -- ---- refused
+  pub unsound : sound xs ≡ false → Backs buying id now limit xs (Err NoQuote.Unsound)
   unfolding quoted_of behind
-  unsound s = record { quoted = rw s; places = rw s; kept = no_side_kept }
+  unsound s = record { quoted = rw s; places = rw s; kept = tt }
 
   module _ (s : sound xs ≡ true) where
-    is_quote : (q : Quoted) → q ≡ quote_of id now limit (board_at xs) → q ≡ quoted_of id now limit xs
-    unfolding quoted_of
-    is_quote q e = e ∙ rw s
-
-    pub refused : (q : Quoted) → q ≡ quote_of id now limit (board_at xs) → NotGiven q
-        → Backs buying id now limit xs (record { quoted = q; side = no_side })
-    unfolding behind
-    refused q e h =
-        record {
-          quoted = is_quote q e;
-          places = rw (sym (is_quote q e)) (sym (refused_is (λ p. side_for buying (at (look id (board_at xs).insts) (board_at xs)).book) [] q h));
-          kept = no_side_kept;
-        }
+    pub passed_on : (why : NoQuote) → quote_of id now limit (board_at xs) ≡ Err why
+        → (r : Result Backed NoQuote) → IsErrAnd r (λ e. e ≡ why) → Backs buying id now limit xs r
+    unfolding quoted_of behind
+    passed_on why e (Err f) h = record { quoted = rw (s, e, h); places = rw (s, e); kept = tt }
+    passed_on why e (Ok b) h = absurd h
 
     -- ---- given
-    module _ (q : Quote) (given : quote_of id now limit (board_at xs) ≡ Quoted.Is q) where
+    module _ (q : Quote) (given : quote_of id now limit (board_at xs) ≡ Ok q) where
       found : look id (board_at xs).insts < (loaded xs).head.followed
       found = omega (arith, followed id now limit (board_at xs) q given, insts_length (loaded xs))
 
@@ -96,9 +81,7 @@ module _ (buying : Bool) (id : ℕ) (now : List ℕ) (limit : ℕ) (xs : List �
       side_kept true = ((formed xs s).books (look id (board_at xs).insts) found).offers
       side_kept false = ((formed xs s).books (look id (board_at xs).insts) found).bids
 
-      pub backs : (r : Quoted) (i : ℕ) (side : Side) → r ≡ quote_of id now limit (board_at xs) → i ≡ look id (board_at xs).insts
-          → side ≡ side_at xs (cond buying (offers_of i) (bids_of i)) → Backs buying id now limit xs (record { quoted = r; side = side })
+      pub backs : (i : ℕ) (side : Side) → i ≡ look id (board_at xs).insts → side ≡ side_at xs (cond buying (offers_of i) (bids_of i))
+          → Backs buying id now limit xs (Ok (record { quote = q; side = side }))
       unfolding quoted_of behind
-      backs r i side e w v =
-          rw (v, w)
-          (record { quoted = is_quote r e; places = rw (s, given) (side_at_lem buying); kept = side_kept buying })
+      backs i side w v = rw (v, w) (record { quoted = rw (s, given); places = rw (s, given) (side_at_lem buying); kept = side_kept buying })

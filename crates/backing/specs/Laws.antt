@@ -1,5 +1,6 @@
 -- What is shown of a quote with its side.
-use Rattle.std.specs.Prelude.{◌≡◌, Bool, List, ℕ}
+use Rattle.std.specs.Prelude.{◌≡◌, Bool, List, ℕ, Result}
+use Rattle.quote.specs.declared.NoQuote.{NoQuote}
 use Rattle.ask.specs.Fine.{FineQuoted}
 use Rattle.backing.specs.Backing.{quoted_of, Backs}
 use Rattle.backing.specs.declared.Backed.{Backed}
@@ -7,7 +8,7 @@ use Rattle.backing.specs.declared.Backed.{Backed}
 -- It is settled: any two that the contract allows are one.
 abbrev pub BackedOnce : Type 0
 BackedOnce =
-    (buying : Bool) (id : ℕ) (now : List ℕ) (limit : ℕ) (xs : List ℕ) (r s : Backed)
+    (buying : Bool) (id : ℕ) (now : List ℕ) (limit : ℕ) (xs : List ℕ) (r s : Result Backed NoQuote)
     → Backs buying id now limit xs r → Backs buying id now limit xs s → r ≡ s
 
 -- A quote that is given can be written: its moments are moments.

@@ -9,12 +9,12 @@ ghost use Rattle.sound.specs.Sound.{sound};
 ghost use Rattle.backing.specs.Backing.{Backs};
 
 use book::Side;
-use quote::Quoted;
+use quote::{NoQuote, Quote};
 
-// A quote, or why there is none, and the side behind it; where no quote is given, a side that holds nothing.
+// A quote and the side behind it.
 #[derive(Clone, Copy)]
 pub struct Backed {
-    pub quoted: Quoted,
+    pub quote: Quote,
     pub side: Side,
 }
 
@@ -23,37 +23,26 @@ fn load(store: &[u64], buying: bool, i: usize) -> Side
     requires { (store_size ≤ length store.now) × (i < 16) }
     ensures { result ≡ side_at store.now (cond buying (offers_of i) (bids_of i)) }
 {
-    if buying {
-        return cells::load_side(store, store::OFFERS + i * store::BOOK);
-    }
-    cells::load_side(store, store::BIDS + i * store::BOOK)
-}
-
-// The quote of a sound store.
-fn quote_sound(store: &[u64], buying: bool, id: u64, time: &[u8], limit: u64) -> Backed
-    requires { sound store.now ≡ true }
-    ensures { Backs buying id time.now limit store.now result }
-{
-    let h = store::load_heading(store);
-    let quoted = quote::quote_for(store, h, id, time, limit);
-    let Quoted::Is(_) = quoted else {
-        let none = book::no_side();
-        return Backed { quoted, side: none };
-    };
-    let i = store::find(store, h, id);
-    let side = load(store, buying, i);
-    Backed { quoted, side }
+    let first = if buying { store::OFFERS } else { store::BIDS };
+    cells::load_side(store, first + i * store::BOOK)
 }
 
 // The dated quote of the instrument with this SecurityID, now a date and time shaped as tag 52, the limit in seconds, with its offers to
 // buy from, or its bids to sell to.
-pub fn quote(store: &[u64], buying: bool, id: u64, time: &[u8], limit: u64) -> Backed
+pub fn quote(
+    store: &[u64],
+    buying: bool,
+    id: u64,
+    time: &[u8],
+    limit: u64,
+) -> Result<Backed, NoQuote>
     ensures { Backs buying id time.now limit store.now result }
 {
     if !sound::sound(store) {
-        let none = book::no_side();
-        let quoted = Quoted::Unsound;
-        return Backed { quoted, side: none };
+        return Err(NoQuote::Unsound);
     }
-    quote_sound(store, buying, id, time, limit)
+    let h = store::load_heading(store);
+    let quote = quote::quote_for(store, h, id, time, limit)?;
+    let side = load(store, buying, store::find(store, h, id));
+    Ok(Backed { quote, side })
 }
