@@ -7,45 +7,46 @@ use native.Mathlib.Omega.{arith}
 use lib.Dec.{leb, eqb}
 use lib.ListN.{length}
 use borrow.Author.Tests.{le-leb, lt-leb, leb-true, eqb-true, eqb-false, ne_eqb}
-use Rattle.std.specs.Prelude.{Option, None, Some}
+use Rattle.std.specs.Prelude.{Option, None, Some, Ok, Err}
 use Rattle.book.specs.declared.Entry.{Entry}
 use Rattle.sums.specs.Sums.{fits}
 use Rattle.proceeds.specs.declared.Sale.{Sale}
 use Rattle.proceeds.specs.Lots.{sum_after, lot_of}
 use Rattle.proceeds.proofs.Exactly.{lots_are_exact}
 use Rattle.quote.specs.declared.Quote.{Quote}
-use Rattle.quote.specs.declared.Quoted.{Quoted}
-use Rattle.quote.specs.Quotes.{quote_number}
+use Rattle.quote.specs.declared.NoQuote.{NoQuote}
+use Rattle.quote.specs.Numbers.{refusal_number}
+use Rattle.quote.specs.Quotes.{Quoted, quote_number}
 use Rattle.ask.specs.Ask.{bits_of}
 use Rattle.backing.specs.Backing.{quoted_of, behind}
 use Rattle.lots.specs.declared.Sold.{Sold}
-use Rattle.lots.specs.declared.Lotted.{Lotted}
+use Rattle.lots.specs.declared.NoLot.{NoLot}
 use Rattle.lots.specs.Lots.{units_fine, dated, on_quote, lotted_of, lot_number}
 use Rattle.lots.specs.Rooms.{lot_size, in_room, lot_answer}
 use Rattle.lots.specs.Laws.{Rests, Answers, LotsAreOrdered, Bounds, LotSettled}
 
 -- ---- a lot on a quote
 pub record OnQuote (r : Quoted) (n : ℕ) (es : List Entry) : Type 0 where
-  pub quote : (quote_number r ≡ 0 → ⊥) → on_quote r n es ≡ Lotted.Not r
+  pub quote : (quote_number r ≡ 0 → ⊥) → lot_number (on_quote r n es) ≡ quote_number r
   pub sound : quote_number r ≡ 0 → lot_number (on_quote r n es) ≡ 17 → ⊥
-  pub units : quote_number r ≡ 0 → units_fine n ≡ false → on_quote r n es ≡ Lotted.BadQuantity
-  pub over : quote_number r ≡ 0 → units_fine n ≡ true → (k : ℕ) → fits (sum_after n es k) ≡ false → on_quote r n es ≡ Lotted.Over
+  pub units : quote_number r ≡ 0 → units_fine n ≡ false → on_quote r n es ≡ Err NoLot.BadQuantity
+  pub over : quote_number r ≡ 0 → units_fine n ≡ true → (k : ℕ) → fits (sum_after n es k) ≡ false → on_quote r n es ≡ Err NoLot.Over
   pub only : lot_number (on_quote r n es) ≡ 35
       → (quote_number r ≡ 0) × ((units_fine n ≡ true) × ((k : ℕ) × ((k ≤ length es) × (fits (sum_after n es k) ≡ false))))
   pub done : quote_number r ≡ 0 → units_fine n ≡ true → ((k : ℕ) → fits (sum_after n es k) ≡ true) → lot_number (on_quote r n es) ≡ 0
-  pub given : lot_number (on_quote r n es) ≡ 0 → (q : Quote) × ((s : Sold) × ((r ≡ Quoted.Is q) × ((on_quote r n es ≡ Lotted.Is s) × Rests q n es s)))
+  pub given : lot_number (on_quote r n es) ≡ 0 → (q : Quote) × ((s : Sold) × ((r ≡ Ok q) × ((on_quote r n es ≡ Ok s) × Rests q n es s)))
 
 -- a refusal of the quote: every other case is out of the question
-refused : (r : Quoted) (n : ℕ) (es : List Entry) → on_quote r n es ≡ Lotted.Not r → (quote_number r ≡ 0 → ⊥) → (quote_number r ≡ 35 → ⊥) → OnQuote r n es
-refused r n es e z w =
+refused : (why : NoQuote) (n : ℕ) (es : List Entry) → (refusal_number why ≡ 0 → ⊥) → (refusal_number why ≡ 35 → ⊥) → OnQuote (Err why) n es
+refused why n es z w =
     record {
-      quote = λ h. e;
+      quote = λ h. refl;
       sound = λ h. absurd (z h);
       units = λ h. absurd (z h);
       over = λ h. absurd (z h);
-      only = λ h. absurd (w (sym (ap lot_number e) ∙ h));
+      only = λ h. absurd (w h);
       done = λ h. absurd (z h);
-      given = λ h. absurd (z (sym (ap lot_number e) ∙ h));
+      given = λ h. absurd (z h);
     }
 
 module _ (q : Quote) (n : ℕ) (es : List Entry) where
@@ -53,12 +54,12 @@ module _ (q : Quote) (n : ℕ) (es : List Entry) where
   sum_out (Some s) e h = absurd (omega arith)
   sum_out None e h = e
 
-  only_sums : (t : Bool) → units_fine n ≡ t → lot_number (cond t (dated q (lot_of n es)) Lotted.BadQuantity) ≡ 35
+  only_sums : (t : Bool) → units_fine n ≡ t → lot_number (cond t (dated q (lot_of n es)) (Err NoLot.BadQuantity)) ≡ 35
       → (◌≡◌ {A = ℕ} 0 0) × ((units_fine n ≡ true) × ((k : ℕ) × ((k ≤ length es) × (fits (sum_after n es k) ≡ false))))
   only_sums true u h = (refl, (u, (lots_are_exact n es).refused (sum_out (lot_of n es) refl h)))
   only_sums false u h = absurd (omega arith)
 
-  not_17 : (t : Bool) → lot_number (cond t (dated q (lot_of n es)) Lotted.BadQuantity) ≡ 17 → ⊥
+  not_17 : (t : Bool) → lot_number (cond t (dated q (lot_of n es)) (Err NoLot.BadQuantity)) ≡ 17 → ⊥
   not_17 true h = go (lot_of n es) h
     where
       go : (l : Option Sale) → lot_number (dated q l) ≡ 17 → ⊥
@@ -71,7 +72,7 @@ module _ (q : Quote) (n : ℕ) (es : List Entry) where
   all_fit None e h = let (k, (m, w)) = (lots_are_exact n es).refused e in absurd (false≢true (sym w ∙ h k))
 
   -- what is given is exact and dated
-  sold : (l : Option Sale) → lot_of n es ≡ l → lot_number (dated q l) ≡ 0 → (s : Sold) × ((dated q l ≡ Lotted.Is s) × Rests q n es s)
+  sold : (l : Option Sale) → lot_of n es ≡ l → lot_number (dated q l) ≡ 0 → (s : Sold) × ((dated q l ≡ Ok s) × Rests q n es s)
   sold (Some x) e h =
       let g = (lots_are_exact n es).given x e in (
         record { sum = x.sum; left = x.left; number = q.number; heard = q.heard },
@@ -89,12 +90,12 @@ module _ (q : Quote) (n : ℕ) (es : List Entry) where
       )
   sold None e h = absurd (omega arith)
 
-  given : (t : Bool) → lot_number (cond t (dated q (lot_of n es)) Lotted.BadQuantity) ≡ 0
-      → (s : Sold) × ((cond t (dated q (lot_of n es)) Lotted.BadQuantity ≡ Lotted.Is s) × Rests q n es s)
+  given : (t : Bool) → lot_number (cond t (dated q (lot_of n es)) (Err NoLot.BadQuantity)) ≡ 0
+      → (s : Sold) × ((cond t (dated q (lot_of n es)) (Err NoLot.BadQuantity) ≡ Ok s) × Rests q n es s)
   given true h = sold (lot_of n es) refl h
   given false h = absurd (omega arith)
 
-  quoted : OnQuote (Quoted.Is q) n es
+  quoted : OnQuote (Ok q) n es
   quoted =
       record {
         quote = λ h. absurd (h refl);
@@ -106,15 +107,18 @@ module _ (q : Quote) (n : ℕ) (es : List Entry) where
         given = λ h. let (s, r) = given (units_fine n) h in (q, (s, (refl, r)));
       }
 
+no_quote : (why : NoQuote) → (refusal_number why ≡ 0 → ⊥) × (refusal_number why ≡ 35 → ⊥)
+no_quote NoQuote.Unsound = (λ h. omega arith, λ h. omega arith)
+no_quote NoQuote.BadArgument = (λ h. omega arith, λ h. omega arith)
+no_quote NoQuote.NotFollowed = (λ h. omega arith, λ h. omega arith)
+no_quote NoQuote.Waiting = (λ h. omega arith, λ h. omega arith)
+no_quote NoQuote.NothingHeard = (λ h. omega arith, λ h. omega arith)
+no_quote NoQuote.BeforeHeard = (λ h. omega arith, λ h. omega arith)
+no_quote NoQuote.TooOld = (λ h. omega arith, λ h. omega arith)
+
 on_quote_lem : (r : Quoted) (n : ℕ) (es : List Entry) → OnQuote r n es
-on_quote_lem (Quoted.Is q) n es = quoted q n es
-on_quote_lem Quoted.Unsound n es = refused Quoted.Unsound n es refl (λ h. omega arith) (λ h. omega arith)
-on_quote_lem Quoted.BadArgument n es = refused Quoted.BadArgument n es refl (λ h. omega arith) (λ h. omega arith)
-on_quote_lem Quoted.NotFollowed n es = refused Quoted.NotFollowed n es refl (λ h. omega arith) (λ h. omega arith)
-on_quote_lem Quoted.Waiting n es = refused Quoted.Waiting n es refl (λ h. omega arith) (λ h. omega arith)
-on_quote_lem Quoted.NothingHeard n es = refused Quoted.NothingHeard n es refl (λ h. omega arith) (λ h. omega arith)
-on_quote_lem Quoted.BeforeHeard n es = refused Quoted.BeforeHeard n es refl (λ h. omega arith) (λ h. omega arith)
-on_quote_lem Quoted.TooOld n es = refused Quoted.TooOld n es refl (λ h. omega arith) (λ h. omega arith)
+on_quote_lem (Ok q) n es = quoted q n es
+on_quote_lem (Err why) n es = let z = no_quote why in refused why n es z.0 z.1
 
 -- ---- in room
 in_first : (room a : ℕ) → a ≡ 17 → in_room room a ≡ 17
@@ -149,7 +153,7 @@ module _ (buying : Bool) (id n : ℕ) (now : List ℕ) (limit : ℕ) (room xs : 
   number = lot_number (on_quote (quoted_of id now limit xs) n (behind buying id now limit xs))
 
   refused_number : (quote_number (quoted_of id now limit xs) ≡ 0 → ⊥) → number ≡ quote_number (quoted_of id now limit xs)
-  refused_number z = ap lot_number (o.quote z)
+  refused_number z = o.quote z
 
   is_17 : number ≡ 17 → quote_number (quoted_of id now limit xs) ≡ 17
   is_17 e = go (eqb (quote_number (quoted_of id now limit xs)) 0) refl

@@ -1,2 +1,2 @@
-pub mod Tests
+pub mod Fine
 pub mod Laws

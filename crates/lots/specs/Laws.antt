@@ -1,17 +1,15 @@
 -- What is shown of selling and buying: the answers in the order of the checks, and what a lot that is given says.
-use Rattle.std.specs.Prelude.{◌≡◌, Bool, true, false, List, ℕ, ◌+◌, ◌≤◌, ◌<◌, negsuc, length}
+use Rattle.std.specs.Prelude.{Ok, ◌≡◌, Bool, true, false, List, ℕ, ◌+◌, ◌≤◌, ◌<◌, negsuc, length}
 use Rattle.book.specs.declared.Entry.{Entry}
 use Rattle.sums.specs.Sums.{fits}
 use Rattle.proceeds.specs.Lots.{units_of, left_of, sum_over, sum_after}
 use Rattle.proceeds.specs.Laws.{total}
 use Rattle.sound.specs.Settled.{Settled}
 use Rattle.quote.specs.declared.Quote.{Quote}
-use Rattle.quote.specs.declared.Quoted.{Quoted}
 use Rattle.quote.specs.Quotes.{quote_number}
 use Rattle.ask.specs.Ask.{bits_of}
 use Rattle.backing.specs.Backing.{quoted_of, behind}
 use Rattle.lots.specs.declared.Sold.{Sold}
-use Rattle.lots.specs.declared.Lotted.{Lotted}
 use Rattle.lots.specs.Lots.{units_fine, lotted_of}
 use Rattle.lots.specs.Rooms.{lot_size, sold_words, lot_answer, Dealt}
 
@@ -29,8 +27,8 @@ pub record Rests (q : Quote) (n : ℕ) (es : List Entry) (s : Sold) : Type 0 whe
 pub record Brings (buying : Bool) (id n : ℕ) (now : List ℕ) (limit : ℕ) (xs : List ℕ) : Type 0 where
   pub q : Quote
   pub s : Sold
-  pub quoted : quoted_of id now limit xs ≡ Quoted.Is q
-  pub lotted : lotted_of buying id n now limit xs ≡ Lotted.Is s
+  pub quoted : quoted_of id now limit xs ≡ Ok q
+  pub lotted : lotted_of buying id n now limit xs ≡ Ok s
   pub rests : Rests q n (behind buying id now limit xs) s
 
 pub record Answers (buying : Bool) (id n : ℕ) (now : List ℕ) (limit : ℕ) (room xs : List ℕ) : Type 0 where

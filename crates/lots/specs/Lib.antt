@@ -1,3 +1,4 @@
+pub mod Numbers
 pub mod Lots
 pub mod Rooms
 pub mod Laws

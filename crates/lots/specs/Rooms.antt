@@ -1,10 +1,9 @@
 -- A lot as numbers in lent room.
-use Rattle.std.specs.Prelude.{◌≡◌, Bool, cond, List, [], ◌∷◌, ◌++◌, ℕ, ◌<◌, leb, eqb, length}
+use Rattle.std.specs.Prelude.{Ok, Err, ◌≡◌, Bool, cond, List, [], ◌∷◌, ◌++◌, ℕ, ◌<◌, leb, eqb, length}
 use Rattle.moment.specs.Moments.{moments}
 use Rattle.ask.specs.Ask.{room_after, bits_of, moment_words}
 use Rattle.lots.specs.declared.Sold.{Sold}
-use Rattle.lots.specs.declared.Lotted.{Lotted}
-use Rattle.lots.specs.Lots.{lotted_of, lot_number}
+use Rattle.lots.specs.Lots.{Lotted, lotted_of, lot_number}
 
 -- A lot takes 5 numbers of the room that is lent for it.
 abbrev pub lot_size : ℕ
@@ -16,10 +15,8 @@ sold_words s = s.number ∷ moment_words s.heard ++ (bits_of s.sum ∷ s.left �
 
 -- A refusal has none.
 abbrev pub lot_words : Lotted → List ℕ
-lot_words (Lotted.Is s) = sold_words s
-lot_words (Lotted.Not q) = []
-lot_words Lotted.BadQuantity = []
-lot_words Lotted.Over = []
+lot_words (Ok s) = sold_words s
+lot_words (Err why) = []
 
 -- 17 comes first; then room for fewer is 18, as are the quote's arguments; then the rest.
 abbrev pub in_room : ℕ → ℕ → ℕ
@@ -39,7 +36,5 @@ pub record Dealt (buying : Bool) (id n : ℕ) (now : List ℕ) (limit : ℕ) (ro
 
 -- What can be written as numbers: the moment is one.
 abbrev pub FineLot : Lotted → Type 0
-FineLot (Lotted.Is s) = s.heard < moments
-FineLot (Lotted.Not q) = Unit {0}
-FineLot Lotted.BadQuantity = Unit {0}
-FineLot Lotted.Over = Unit {0}
+FineLot (Ok s) = s.heard < moments
+FineLot (Err why) = Unit {0}

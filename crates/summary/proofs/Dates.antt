@@ -1,5 +1,5 @@
 -- A quote that is given begins as the summary does. Assumes nothing.
-use Rattle.std.specs.Prelude.{Option, Some, None}
+use Rattle.std.specs.Prelude.{Option, Some, None, Ok, Err}
 use mathlib.Core.Path.{◌≡◌, refl}
 use mathlib.Core.Bool.{Bool, true, false, cond, ◌&&◌}
 use mathlib.Core.List.{List, [], ◌∷◌, ◌++◌}
@@ -14,8 +14,8 @@ use Rattle.moment.specs.Ages.{age_of}
 use Rattle.board.specs.Board.{Board, look, at}
 use Rattle.board.specs.Ranges.{id_fine}
 use Rattle.store.specs.Meaning.{marks_of}
-use Rattle.quote.specs.Quotes.{most_limit, given, quote_at, at_now, quote_of}
-use Rattle.quote.specs.declared.Quoted.{Quoted}
+use Rattle.quote.specs.Quotes.{Quoted, most_limit, given, quote_at, at_now, quote_of}
+use Rattle.quote.specs.declared.NoQuote.{NoQuote}
 use Rattle.ask.specs.Ask.{moment_words, quote_number, quote_values}
 use Rattle.summary.specs.Laws.{DatedAsQuotes}
 
@@ -27,8 +27,8 @@ module _ (b : Board) where
   -- the quote as it is tested, and the summary with its own test: both ask whether H is 0
   abbrev tested : ℕ → Bool → Bool → Bool → Bool → Bool → Quoted
   tested i f w z s l =
-      cond f Quoted.NotFollowed
-      (cond w Quoted.Waiting (cond z Quoted.NothingHeard (cond s Quoted.BeforeHeard (cond l Quoted.TooOld (Quoted.Is (given b (at i b)))))))
+      cond f (Err NoQuote.NotFollowed)
+      (cond w (Err NoQuote.Waiting) (cond z (Err NoQuote.NothingHeard) (cond s (Err NoQuote.BeforeHeard) (cond l (Err NoQuote.TooOld) (Ok (given b (at i b)))))))
 
   abbrev summed : Bool → List ℕ
   summed z = b.H ∷ cond z (0 ∷ 0 ∷ []) (moment_words b.heard) ++ (b.B ∷ marks_of 0 b.insts ∷ [])
@@ -52,7 +52,7 @@ module _ (b : Board) where
   at_now_lem None id limit e = no e
   at_now_lem (Some time) id limit e = go (id_fine id && leb limit most_limit) e
     where
-      go : (t : Bool) → Alike (cond t (quote_at (look id b.insts) time limit b) Quoted.BadArgument) (eqb b.H 0)
+      go : (t : Bool) → Alike (cond t (quote_at (look id b.insts) time limit b) (Err NoQuote.BadArgument)) (eqb b.H 0)
       go true e = at_time (look id b.insts) time limit e
       go false e = no e
 

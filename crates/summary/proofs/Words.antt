@@ -1,12 +1,11 @@
--- The five numbers as the store has them, and the answers test by test.
+-- The five numbers as the store has them. Assumes nothing.
 use mathlib.Core.Path.{◌≡◌, refl, sym, ap, ◌∙◌}
 use mathlib.Core.Bool.{Bool, true, false, cond}
 use mathlib.Core.List.{List, [], ◌∷◌, ◌++◌}
-use Prim.Native.Nat.{ℕ, ◌≤◌, ◌<◌}
+use Prim.Native.Nat.{ℕ}
 use lib.Dec.{eqb}
-use lib.ListN.{length, get_or, set}
+use lib.ListN.{get_or, set}
 use lib.Seq.{sets}
-use borrow.Author.Tests.{le-leb, lt-leb}
 use Rattle.board.specs.Sound.{heard_fine}
 use Rattle.store.specs.Layout.{at_number, at_base, at_heard, at_marks}
 use Rattle.store.specs.Meaning.{board_of, board_at}
@@ -14,7 +13,7 @@ use Rattle.sound.specs.Sound.{sound}
 use Rattle.sound.proofs.Marks.{marks_back}
 use Rattle.sound.proofs.Readers.{formed, board}
 use Rattle.ask.specs.Ask.{moment_words}
-use Rattle.summary.specs.Summary.{heard_words, summary_words, summary_answer, summary_out, Summed}
+use Rattle.summary.specs.Summary.{heard_words, summary_words}
 
 -- one number, two, two
 parts : (l : List ℕ) (H heard B marks : ℕ)
@@ -43,18 +42,3 @@ put_is l xs s =
 pub heard : (xs : List ℕ) → sound xs ≡ true → heard_fine (get_or xs at_number 0) (get_or xs at_heard 0) ≡ true
 unfolding board_of
 heard xs s = (board xs s).heard
-
--- the answers, test by test
-module _ (room xs : List ℕ) where
-  pub unsound : sound xs ≡ false → Summed room xs 17 room
-  unfolding summary_answer summary_out
-  unsound s = record { answer = rw s; out = rw s }
-
-  module _ (s : sound xs ≡ true) where
-    pub short : length room < 5 → Summed room xs 18 room
-    unfolding summary_answer summary_out
-    short h = let e = lt-leb 5 (length room) h in record { answer = rw (s, e); out = rw (s, e) }
-
-    pub summed : 5 ≤ length room → Summed room xs 0 (sets room 0 (summary_words (board_at xs)))
-    unfolding summary_answer summary_out
-    summed h = let e = le-leb 5 (length room) h in record { answer = rw (s, e); out = rw (s, e) }

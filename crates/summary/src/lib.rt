@@ -18,11 +18,10 @@ fn put_heard(out: &mut [u64], number: u64, heard: u64)
     ensures { out.new ≡ sets out.old 1 (heard_words number heard) }
 {
     if number == 0 {
-        out[1] = 0;
-        out[2] = 0;
-        return;
+        out[1..3].fill(0);
+    } else {
+        ask::put_moment(out, 1, heard);
     }
-    ask::put_moment(out, 1, heard);
 }
 
 // The five numbers of a sound store.
@@ -34,10 +33,12 @@ fn put_summary(store: &[u64], out: &mut [u64])
     out[0] = h.number;
     put_heard(out, h.number, h.heard);
     out[3] = h.base;
-    out[4] = h.marks as u64;
+    out[4] = u64::from(h.marks);
 }
 
+// Kept: a number and no Result, since `selkavorn_board` alone calls it, for C, and `Summed` says document 01's number.
 // H, the heard moment, B and the marks: 17, 18, else 0 and 5 numbers at the start of the room.
+#[tactic(auto, unfolding(crate::specs::Summary::summary_answer, crate::specs::Summary::summary_out))]
 pub fn summary(store: &[u64], out: &mut [u64]) -> u64
     ensures { Summed out.old store.now result out.new }
 {
