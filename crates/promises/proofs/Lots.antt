@@ -31,15 +31,14 @@ use Rattle.loops.specs.Channel.{Channel}
 use Rattle.store.specs.Meaning.{board_at}
 use Rattle.sound.specs.Sound.{sound}
 use Rattle.opening.specs.Opening.{open_answer, open_store}
-use Rattle.quote.specs.Quotes.{given, quote_of, if_quoted}
-use Rattle.quote.specs.declared.Top.{Top}
+use Rattle.std.specs.Prelude.{Ok, Err, Some}
+use Rattle.quote.specs.Quotes.{Quoted, given, quote_of, if_quoted}
 use Rattle.quote.specs.declared.Quote.{Quote}
-use Rattle.quote.specs.declared.Quoted.{Quoted}
+use Rattle.quote.specs.declared.NoQuote.{NoQuote}
 use Rattle.price.specs.Price.{hundredths}
 use Rattle.ask.specs.Ask.{bits_of, moment_words, top_words, quote_words, quote_size, quote_number, quote_answer, quote_out}
 use Rattle.backing.specs.Backing.{quoted_of, side_for, behind}
 use Rattle.lots.specs.declared.Sold.{Sold}
-use Rattle.lots.specs.declared.Lotted.{Lotted}
 use Rattle.lots.specs.Lots.{on_quote, lotted_of}
 use Rattle.lots.specs.Rooms.{lot_size, sold_words, lot_answer, lot_out}
 use Rattle.lots.specs.Laws.{Rests, Brings}
@@ -55,35 +54,35 @@ use Rattle.promises.proofs.Quotes.{given_by, counted, as_of}
 -- ---- the quote that a lot rests on, on the board
 pub record OnBoard (id : ℕ) (now : List ℕ) (limit : ℕ) (xs : List ℕ) (q : Quote) : Type 0 where
   pub is_sound_lem : sound xs ≡ true
-  pub quoted : quote_of id now limit (board_at xs) ≡ Quoted.Is q
+  pub quoted : quote_of id now limit (board_at xs) ≡ Ok q
 
 module _ (id : ℕ) (now : List ℕ) (limit : ℕ) (xs : List ℕ) where
   -- the quote of a store that is given is its board's
-  on_board : (q : Quote) → quoted_of id now limit xs ≡ Quoted.Is q → OnBoard id now limit xs q
+  on_board : (q : Quote) → quoted_of id now limit xs ≡ Ok q → OnBoard id now limit xs q
   unfolding quoted_of
   on_board q = go (sound xs) refl
     where
-      go : (t : Bool) → sound xs ≡ t → cond t (quote_of id now limit (board_at xs)) Quoted.Unsound ≡ Quoted.Is q → OnBoard id now limit xs q
+      go : (t : Bool) → sound xs ≡ t → cond t (quote_of id now limit (board_at xs)) (Err NoQuote.Unsound) ≡ Ok q → OnBoard id now limit xs q
       go true s e = record { is_sound_lem = s; quoted = e }
       go false s e = let z : ◌≡◌ {A = ℕ} 0 1 = cc in absurd (omega arith)
 
-  behind_is : (buying : Bool) (q : Quote) → quoted_of id now limit xs ≡ Quoted.Is q → behind buying id now limit xs ≡ side_for buying (inst id (board_at xs)).book
+  behind_is : (buying : Bool) (q : Quote) → quoted_of id now limit xs ≡ Ok q → behind buying id now limit xs ≡ side_for buying (inst id (board_at xs)).book
   unfolding behind
   behind_is buying q e = rw e
 
   -- a quote that is answered 0 is given
-  is_quoted : (r : Quoted) → quote_number r ≡ 0 → (q : Quote) × (r ≡ Quoted.Is q)
-  is_quoted (Quoted.Is q) e = (q, refl)
-  is_quoted Quoted.Unsound e = absurd (omega arith)
-  is_quoted Quoted.BadArgument e = absurd (omega arith)
-  is_quoted Quoted.NotFollowed e = absurd (omega arith)
-  is_quoted Quoted.Waiting e = absurd (omega arith)
-  is_quoted Quoted.NothingHeard e = absurd (omega arith)
-  is_quoted Quoted.BeforeHeard e = absurd (omega arith)
-  is_quoted Quoted.TooOld e = absurd (omega arith)
+  is_quoted : (r : Quoted) → quote_number r ≡ 0 → (q : Quote) × (r ≡ Ok q)
+  is_quoted (Ok q) e = (q, refl)
+  is_quoted (Err NoQuote.Unsound) e = absurd (omega arith)
+  is_quoted (Err NoQuote.BadArgument) e = absurd (omega arith)
+  is_quoted (Err NoQuote.NotFollowed) e = absurd (omega arith)
+  is_quoted (Err NoQuote.Waiting) e = absurd (omega arith)
+  is_quoted (Err NoQuote.NothingHeard) e = absurd (omega arith)
+  is_quoted (Err NoQuote.BeforeHeard) e = absurd (omega arith)
+  is_quoted (Err NoQuote.TooOld) e = absurd (omega arith)
 
   -- and is the board's
-  is_given : (q p : Quote) → Quoted.Is q ≡ Quoted.Is p → q ≡ p
+  is_given : (q p : Quote) → ◌≡◌ {A = Quoted} (Ok q) (Ok p) → q ≡ p
   is_given q p e = cc
 
   of_quote : (q : Quote) → OnBoard id now limit xs q → q ≡ given (board_at xs) (inst id (board_at xs))
@@ -169,7 +168,7 @@ module _ (buying : Bool) (id n : ℕ) (now : List ℕ) (limit : ℕ) (room out x
   unfolding quote_answer quoted_of
   quote_is = rw (le-leb quote_size (length room) l) (go (sound xs))
     where
-      go : (t : Bool) → cond t (quote_number (quote_of id now limit (board_at xs))) 17 ≡ quote_number (cond t (quote_of id now limit (board_at xs)) Quoted.Unsound)
+      go : (t : Bool) → cond t (quote_number (quote_of id now limit (board_at xs))) 17 ≡ quote_number (cond t (quote_of id now limit (board_at xs)) (Err NoQuote.Unsound))
       go true = refl
       go false = refl
 
@@ -214,7 +213,7 @@ heard_words_lem : moment_words heard_at_lem ≡ 20250103 ∷ 130002000 ∷ []
 unfolding time_number day_of is_date leap months days_in days_to year_days days_before
 heard_words_lem = ap (λ (d : ℕ). d ∷ time_number (time_part heard_at_lem) ∷ []) (date_back 20250103 (omega arith) refl)
 
-hut_quote : quote_of 7 at_five 30 end.board ≡ Quoted.Is (record { number = 3; heard = heard_at_lem; bid = Top.Held bid_2; offer = Top.Held offer_3 })
+hut_quote : quote_of 7 at_five 30 end.board ≡ Ok (record { number = 3; heard = heard_at_lem; bid = Some bid_2; offer = Some offer_3 })
 unfolding applied after_action after_new after_change any_waiting look joining hit give gives count number entries_of run after snapshot.take snap feed loops.given in_row is_whole ended quote_of age_of millis moment_of date_of time_of clock_of minutes_of two_of digits_of is_date day_of leap months days_in days_to year_days days_before
 hut_quote = refl
 
@@ -225,19 +224,19 @@ hut_sum buying = cond buying (hundredths 14430) (hundredths 12010)
 abbrev hut_left : Bool → ℕ
 hut_left buying = cond buying 0 1
 
-hut_sold : (buying : Bool) (q : Quote) → on_quote (Quoted.Is q) 6 (side_for buying (record { bids = bid_2 ∷ []; offers = offer_3 ∷ [] }))
-    ≡ Lotted.Is (record { sum = hut_sum buying; left = hut_left buying; number = q.number; heard = q.heard })
+hut_sold : (buying : Bool) (q : Quote) → on_quote (Ok q) 6 (side_for buying (record { bids = bid_2 ∷ []; offers = offer_3 ∷ [] }))
+    ≡ Ok (record { sum = hut_sum buying; left = hut_left buying; number = q.number; heard = q.heard })
 unfolding fits units_of left_of value_of all_fit lot_of
 hut_sold true q = refl
 hut_sold false q = refl
 
 module _ (xs room : List ℕ) (e : open_answer 0 ours xs ≡ 0) (l : lot_size ≤ length room) (buying : Bool) where
   hut_lotted : lotted_of buying 7 6 at_five 30 (lefts received (open_store 0 ours xs))
-      ≡ Lotted.Is (record { sum = hut_sum buying; left = hut_left buying; number = 3; heard = heard_at_lem })
+      ≡ Ok (record { sum = hut_sum buying; left = hut_left buying; number = 3; heard = heard_at_lem })
   hut_lotted =
       of_holds 0 (lefts received (open_store 0 ours xs)) end (hut_holds xs e) buying 7 6 at_five 30 _ hut_quote
-      ∙ ap (λ (b : Lists). on_quote (Quoted.Is (record { number = 3; heard = heard_at_lem; bid = Top.Held bid_2; offer = Top.Held offer_3 })) 6 (side_for buying b)) book
-      ∙ hut_sold buying (record { number = 3; heard = heard_at_lem; bid = Top.Held bid_2; offer = Top.Held offer_3 })
+      ∙ ap (λ (b : Lists). on_quote (Ok (record { number = 3; heard = heard_at_lem; bid = Some bid_2; offer = Some offer_3 })) 6 (side_for buying b)) book
+      ∙ hut_sold buying (record { number = 3; heard = heard_at_lem; bid = Some bid_2; offer = Some offer_3 })
 
   hut_answer : lot_answer buying 7 6 at_five 30 room (lefts received (open_store 0 ours xs)) ≡ 0
   unfolding lot_answer

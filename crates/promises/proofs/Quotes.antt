@@ -1,5 +1,5 @@
 -- A quote that is given is dated. Assumes nothing.
-use Rattle.std.specs.Prelude.{Option, Some, None}
+use Rattle.std.specs.Prelude.{Ok, Err, Option, Some, None}
 use mathlib.Core.Path.{◌≡◌, refl, sym, ap, ◌∙◌}
 use mathlib.Core.Bool.{Bool, true, false, cond, ◌&&◌, true≢false}
 use mathlib.Core.List.{List, map}
@@ -18,8 +18,8 @@ use Rattle.board.specs.Ranges.{id_fine}
 use Rattle.store.specs.Meaning.{board_at}
 use Rattle.sound.specs.Sound.{sound}
 use Rattle.opening.specs.Opening.{open_answer, open_store}
-use Rattle.quote.specs.Quotes.{most_limit, given, quote_at, at_now, quote_of}
-use Rattle.quote.specs.declared.Quoted.{Quoted}
+use Rattle.quote.specs.Quotes.{Quoted, most_limit, given, quote_at, at_now, quote_of}
+use Rattle.quote.specs.declared.NoQuote.{NoQuote}
 use Rattle.ask.specs.Ask.{quote_size, quote_number, quote_values, quote_answer, quote_out}
 use Rattle.board.specs.Demand.{NumberedFromOne, NeverBreaks, book_at}
 use Rattle.loops.specs.Channel.{Channel}
@@ -42,7 +42,7 @@ pub record Given (i : ℕ) (now : List ℕ) (limit : ℕ) (b : Board) (q : Quote
   pub some : eqb b.H 0 ≡ false
   pub since : lt_z (age_of time b.heard) (pos 0) ≡ false
   pub within : lt_z (pos (limit * 1000)) (age_of time b.heard) ≡ false
-  pub said : q ≡ Quoted.Is (given b (at i b))
+  pub said : q ≡ Ok (given b (at i b))
 
 no : {A : Type 0} {n : ℕ} → suc n ≡ 0 → A
 no e = absurd (omega (arith, e))
@@ -52,8 +52,8 @@ module _ (i : ℕ) (now : List ℕ) (limit : ℕ) (b : Board) (t : ℕ) (m : mom
   at_time = go (leb (length b.insts) i) (at i b).waiting (eqb b.H 0) (lt_z (age_of t b.heard) (pos 0)) (lt_z (pos (limit * 1000)) (age_of t b.heard)) refl refl refl refl
     where
       go : (f w z s l : Bool) → (at i b).waiting ≡ w → eqb b.H 0 ≡ z → lt_z (age_of t b.heard) (pos 0) ≡ s → lt_z (pos (limit * 1000)) (age_of t b.heard) ≡ l
-          → quote_number (cond f Quoted.NotFollowed (cond w Quoted.Waiting (cond z Quoted.NothingHeard (cond s Quoted.BeforeHeard (cond l Quoted.TooOld (Quoted.Is (given b (at i b)))))))) ≡ 0
-          → Given i now limit b (cond f Quoted.NotFollowed (cond w Quoted.Waiting (cond z Quoted.NothingHeard (cond s Quoted.BeforeHeard (cond l Quoted.TooOld (Quoted.Is (given b (at i b))))))))
+          → quote_number (cond f (Err NoQuote.NotFollowed) (cond w (Err NoQuote.Waiting) (cond z (Err NoQuote.NothingHeard) (cond s (Err NoQuote.BeforeHeard) (cond l (Err NoQuote.TooOld) (Ok (given b (at i b)))))))) ≡ 0
+          → Given i now limit b (cond f (Err NoQuote.NotFollowed) (cond w (Err NoQuote.Waiting) (cond z (Err NoQuote.NothingHeard) (cond s (Err NoQuote.BeforeHeard) (cond l (Err NoQuote.TooOld) (Ok (given b (at i b))))))))
       go true w z s l pw pz ps pl e = no e
       go false true z s l pw pz ps pl e = no e
       go false false true s l pw pz ps pl e = no e
@@ -70,8 +70,8 @@ given_by id now limit b = go (moment_of now) refl
     i : ℕ
     i = look id b.insts
 
-    fine : (z : Bool) (t : ℕ) → moment_of now ≡ Some t → quote_number (cond z (quote_at i t limit b) Quoted.BadArgument) ≡ 0
-        → Given i now limit b (cond z (quote_at i t limit b) Quoted.BadArgument)
+    fine : (z : Bool) (t : ℕ) → moment_of now ≡ Some t → quote_number (cond z (quote_at i t limit b) (Err NoQuote.BadArgument)) ≡ 0
+        → Given i now limit b (cond z (quote_at i t limit b) (Err NoQuote.BadArgument))
     fine true t m e = at_time i now limit b t m e
     fine false t m e = no e
 

@@ -1,6 +1,6 @@
 -- Never quote on a number you cannot date: for one exchange stream and an instrument that it never breaks, a quote that is given is
 -- place 1 of each side of the stream's book at our last number, dated by the stream's message of that number, and no older than the limit.
-use Rattle.std.specs.Prelude.{Some}
+use Rattle.std.specs.Prelude.{Some, Ok}
 use Rattle.std.specs.Prelude.{◌≡◌, false, List, ℕ, suc, ◌*◌, pos}
 use Rattle.std.specs.Int.Signed.{lt_z}
 use Rattle.std.proofs.lemmas.List.Edits.{sets}
@@ -12,7 +12,6 @@ use Rattle.message.specs.Message.{numbered}
 use Rattle.board.specs.Demand.{message_at, NumberedFromOne, NeverBreaks, book_at}
 use Rattle.opening.specs.Opening.{open_answer, open_store}
 use Rattle.quote.specs.Quotes.{top_of}
-use Rattle.quote.specs.declared.Quoted.{Quoted}
 use Rattle.ask.specs.Ask.{quote_values, quote_answer, quote_out}
 use Rattle.promises.specs.Acts.{Act, lefts, Along}
 use Rattle.promises.specs.Recovery.{read_in, Supposed}
@@ -40,7 +39,7 @@ pub record Dated (depth : ℕ) (stream : List (List ℕ)) (d : ℕ) (now : List 
   pub room :
       ys
       ≡ sets out 0
-      (quote_values depth (Quoted.Is (record { number = suc k; heard = heard; bid = top_of book.bids; offer = top_of book.offers })))
+      (quote_values depth (Ok (record { number = suc k; heard = heard; bid = top_of book.bids; offer = top_of book.offers })))
 
 abbrev pub QuotesAreDated : Type 0
 QuotesAreDated =

@@ -1,5 +1,5 @@
 -- The whole lot is what the places that are left make of the present sum. Assumes nothing.
-use Rattle.std.proofs.Common.{◌≡◌, ℤ, Some, take, drop, arith, sym, ap, ◌∙◌}
+use Rattle.std.proofs.Common.{◌≡◌, ◌-◌, ◌≤◌, ℤ, Some, take, drop, arith, sym, ap, ◌∙◌}
 use Rattle.std.proofs.lemmas.List.{take_min}
 use mir.Syntax.{w64}
 use mir.Facts.{to_z-of_z}
@@ -28,8 +28,9 @@ pub loop-e-preserved : goal.loop-e-preserved
 loop-e-preserved c =
     let l = c.loop-e in
     let m = c.min-units.ensures in
+    let few : l.left - c.min-units.result ≤ c.args.quantity = omega arith in
     let t = turn_on _ l.e-index l.level l.left _ c.loop-e-test.true _ _ (to_z-of_z {w = w64} (record { sfits = omega arith })) m c.in_ok-level.level (sym c.in_ok-level.ensures) in
-    (t.0, omega arith, l.invariant.2 ∙ t.1)
+    (t.0, few, l.invariant.2 ∙ t.1)
 
 pub returns : goal.returns
 returns c =
