@@ -1,5 +1,8 @@
 // Bytes and numbers written into a lent slice at a place. A byte past the end is left out, so that a run over too little
 // room still counts bytes: the length of a message is known before any of it is written.
+// Kept: the slice and the place stay two parameters. A cursor that holds the slice was tried: `put` is then `ensures same_reference
+// { self.new.out.ghost_name ≡ self.old.out.ghost_name }` and `ensures wrote { Wrote self.old.out.now self.old.at (b ∷ []) self.new.out.now
+// self.new.at }`, two clauses for the one here, and so is each function that calls it.
 #![tactic(auto)]
 
 ghost use Rattle.std.specs.Prelude.{◌≡◌, [], ◌∷◌, ◌+◌, ◌^◌, ◌≤◌, ◌<◌, length};
