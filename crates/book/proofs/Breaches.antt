@@ -1,7 +1,7 @@
 -- When an action is a breach of a side, what a side that does not refuse it has, and what the action then leaves.
 use mathlib.Core.Path.{◌≡◌, refl, ap, ◌∙◌, sym}
 use mathlib.Core.Bool.{true, cond}
-use mathlib.Core.List.{List, ◌∷◌, ◌++◌}
+use mathlib.Core.List.{◌∷◌, ◌++◌}
 use Prim.Native.Nat.{ℕ, ◌+◌, ◌-◌, ◌≤◌, ◌<◌}
 use native.Mathlib.Nat.{zero-add}
 use native.Mathlib.Omega.{arith}
@@ -114,11 +114,6 @@ refused_by s action p e why h =
     is_reason : (why : Breach) → reason_number why ≡ 0 → ⊥
     is_reason Place z = omega arith
     is_reason Room z = omega arith
-
--- the side that an operation leaves, by its places
-pub left_by_lem : {a b : List Entry} {n : ℕ} {d : Done} → a ≡ b → d ≡ record { side = record { places = b; held = n }; reason = 0 }
-    → record { places = a; held = n } ≡ d.side
-left_by_lem h g = cc
 
 -- what an action that is no breach leaves
 module _ (s : Side) (action p : ℕ) (e : Entry) (clear : breach_of s.held action p ≡ 0) where
