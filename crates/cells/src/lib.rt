@@ -54,7 +54,7 @@ pub fn load_side(store: &[u64], at: usize) -> Side
     requires { at + side_size ≤ length store.now }
     ensures { result ≡ side_at store.now at }
 {
-    let mut places = [book::no_entry(); 20];
+    let mut places = [book::no_entry(); book::PLACES];
     for (i, place) in places.iter_mut().enumerate() {
         *place = load_entry(store, at + 1 + i * ENTRY);
     }
