@@ -4,8 +4,8 @@ ghost use Rattle.std.specs.Prelude.{◌≡◌, ◌∷◌, ◌+◌, ◌*◌, ◌�
 ghost use Rattle.cells.specs.Cells.{update_at};
 ghost use Rattle.cells.specs.Runs.{update_size, updates_in};
 
-use super::{UPDATE, UPDATE_WHAT, load_update};
-use book::Update;
+use super::{UPDATE, UPDATE_ENTRY, UPDATE_WHAT, load_entry, load_update};
+use book::{Entry, Update};
 
 // The first `count` entries of a run.
 #[derive(Clone, Copy)]
@@ -39,5 +39,13 @@ impl<'a> Updates<'a> {
         ensures { result ≡ (update_at self.entry.run.now (i * update_size)).what }
     {
         self.run[i * UPDATE + UPDATE_WHAT]
+    }
+
+    // The entry itself, without what it is of and what it does.
+    pub fn entry(self, i: usize) -> Entry
+        requires { i < self.count }
+        ensures { result ≡ (update_at self.entry.run.now (i * update_size)).entry }
+    {
+        load_entry(self.run, i * UPDATE + UPDATE_ENTRY)
     }
 }
