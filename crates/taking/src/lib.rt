@@ -80,13 +80,12 @@ fn take(store: &mut [u64], h: Heading, i: usize, last: u64, book: Book) -> Fed
 fn show(us: Updates, side: u64) -> Side
     ensures { result ≡ side_of (entries_of side (updates_of us.entry)) }
 {
-    let none = book::no_entry();
-    let mut places = [none; 20];
+    let mut places = [book::no_entry(); book::PLACES];
     let mut n = 0;
     for i in 0..us.count {
         if us.what(i) == side {
             if n < book::PLACES {
-                places[n] = us.at(i).entry;
+                places[n] = us.entry(i);
             }
             n += 1;
         }

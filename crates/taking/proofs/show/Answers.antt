@@ -12,7 +12,7 @@ use Rattle.taking.proofs.show.Goals as goal
 use Rattle.taking.proofs.show.Goals.{then-what-side, else-what-side, then-n-lt-PLACES, else-n-lt-PLACES}
 
 pub loop-i-init : goal.loop-i-init
-loop-i-init c = (omega arith, rw c.no_entry-none.ensures (shows_none _))
+loop-i-init c = (omega arith, rw c.no_entry-places.ensures (shows_none _))
 
 pub loop-i-preserved : goal.loop-i-preserved
 loop-i-preserved c =
@@ -25,7 +25,7 @@ loop-i-preserved c =
           let e = entries_take c.args.side f us.count l.i (omega arith) (eq-eqb _ _ (sym c.what.ensures ∙ w.if-what-side.true)) in
           elim w.if-n-lt-PLACES.branch [
             | then-n-lt-PLACES z ↦
-                rw (w.n-is, w.places-is, z.places-is, z.at.ensures.value)
+                rw (w.n-is, w.places-is, z.places-is, z.entry.ensures)
                 (omega arith, shows_put l.places l.n (f l.i).entry _ _ z.if-n-lt-PLACES.true (rw e at h))
             | else-n-lt-PLACES z ↦ rw (w.n-is, w.places-is, z.places-is) (omega arith, shows_over l.places l.n _ _ _ z.if-n-lt-PLACES.false (rw e at h))
           ]
