@@ -1,5 +1,7 @@
 // Live instruments get their entries, in place in the store (document 01, "A side of a book" and "Numbers, queue and
 // marks"). A breach breaks the instrument: both sides emptied, mark Waiting, the reason.
+// Kept: store and heading are two parameters and `Formed` a clause, here and in the crates above: as the invariant of one struct it would ask
+// of `break_off` and of `queue::settle` and `let_go` more than their `requires`, which may not grow: a store long enough, and i < 16.
 #![tactic(auto)]
 
 ghost use Rattle.std.specs.Prelude.{◌≡◌, ◌+◌, ◌≤◌, ◌<◌, length};
