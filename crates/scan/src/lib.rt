@@ -241,16 +241,14 @@ fn update(store: &[u64], at: usize, limits: Limits) -> bool
         let none = sides::zero(store, at + cells::UPDATE_ENTRY, cells::ENTRY);
         return is_j & (action == 0) & (place == 0) & none;
     }
-    if MOST_ACTION < action {
-        return false;
-    }
-    if (place < 1) | (MOST_PLACE < place) {
+    if MOST_ACTION < action || place < 1 || MOST_PLACE < place {
         return false;
     }
     if action <= 1 {
-        return sides::entry(store, at + cells::UPDATE_ENTRY, limits);
+        sides::entry(store, at + cells::UPDATE_ENTRY, limits)
+    } else {
+        sides::zero(store, at + cells::UPDATE_ENTRY, cells::ENTRY)
     }
-    sides::zero(store, at + cells::UPDATE_ENTRY, cells::ENTRY)
 }
 
 // A queued entry, its number in `low` to `high`, of one of n instruments.
@@ -260,13 +258,10 @@ fn slot(store: &[u64], at: usize, low: u64, high: u64, n: u64, limits: Limits) -
     ensures { result ≡ slot_scan low high n limits.most limits.full store.now at }
 {
     let number = store[at];
-    if (number < low) | (high < number) {
+    if number < low || high < number || n <= store[at + 1] {
         return false;
     }
-    if n <= store[at + 1] || !update(store, at + 1, limits) {
-        return false;
-    }
-    store[at + 10] == 0
+    update(store, at + 1, limits) && store[at + 10] == 0
 }
 
 // The queue.
