@@ -75,6 +75,7 @@ fn write(store: &mut [u64], depth: u64, ids: &[u64])
 }
 
 // Opens the store: 17, then 18, else 0. A refusal changes nothing, and nothing beyond the 7,168 numbers changes.
+// Kept: a number and no Result, since `selkavorn_open` alone calls it, for C, and `Opened` says document 01's number.
 #[tactic(auto, unfolding(crate::specs::Opening::open_answer, crate::specs::Opening::open_store))]
 pub fn open_store(store: &mut [u64], depth: u64, ids: &[u64]) -> u64
     ensures { Opened depth ids.now store.old result store.new }

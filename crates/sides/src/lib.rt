@@ -1,5 +1,7 @@
 // A side's numbers tested one by one (document 01, "The store is unsound when .."): runs of zeros, entries, the places that a side
 // holds and what is behind them. Every call of the library pays for these tests.
+// Kept: the store and a place in it stay two parameters, here and in crates sweep and scan: `entry_scan`, `side_scan` and what is proved of
+// them test a store by position, and a part that is lent would have to be tied to the whole at each call.
 #![tactic(auto)]
 
 ghost use Rattle.std.specs.Prelude.{◌≡◌, ℕ, ◌+◌, ◌*◌, ◌≤◌, ◌<◌, eqb, length};
