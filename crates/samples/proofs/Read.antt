@@ -26,74 +26,101 @@ use Rattle.samples.specs.Says.{bid_1, bid_2, eight_says, first_says, second_says
 pub sized : length empty_book_bytes ≡ 110
 sized = refl
 
-pub says_empty : message_in 0 empty_book_bytes ≡ snapshot (record { number = 1; heard = 64968180540000; id = 7; last = 0; loops = 1 }) []
-unfolding message_in typed_as or_bad_fields snapshot_of head_of group_of each running frame_of body_of fields_of cut field_of ranged_of whole_of digits_of bytes_of field_bytes decimal width_of width_to fixed tidy up_to past parts all_tidy lookup has stands moment_of date_of time_of clock_of minutes_of two_of is_date day_of leap months days_in days_to year_days days_before instrument_of bvmf
-says_empty = refl
+-- what each message reads as
+record Reads : Type 0 where
+  pub says_empty : message_in 0 empty_book_bytes ≡ snapshot (record { number = 1; heard = 64968180540000; id = 7; last = 0; loops = 1 }) []
+  pub m4_point : message_in 0 point_alone ≡ refused BadFields
+  pub m4_many : message_in 0 too_many_decimals ≡ refused BadFields
+  pub says_eight : message_in 0 eight_decimals ≡ eight_says
+  pub says_first : message_in 0 first ≡ first_says
+  pub says_second : message_in 0 second ≡ second_says
+  pub says_third : message_in 0 third ≡ third_says
+  pub says_at_1 : message_in 0 at_1 ≡ shows 1 bid_1
+  pub says_at_4 : message_in 0 at_4 ≡ shows 4 bid_2
+  pub says_at_2 : message_in 0 at_2 ≡ shows 2 bid_2
+  pub says_one_of_two : message_in 0 one_of_two ≡ one_says
+  pub says_two_of_two : message_in 0 two_of_two ≡ two_says
+  pub says_fourth : message_in 0 fourth ≡ fourth_says
+  pub says_all_empty : message_in 0 all_empty_bytes ≡ all_says
+  pub bad_with_22 : message_in 0 all_empty_22 ≡ refused BadFields
+  pub bad_with_207 : message_in 0 all_empty_207 ≡ refused BadFields
+  pub bad_bid_without_48 : message_in 0 bid_without_48 ≡ refused BadFields
 
--- M4
+-- all of it by the definitions alone
+reads : Reads
+unfolding message_in typed_as or_bad_fields snapshot_of head_of group_of each running frame_of body_of fields_of cut field_of ranged_of whole_of digits_of bytes_of field_bytes decimal width_of width_to fixed tidy up_to past parts all_tidy lookup has stands moment_of date_of time_of clock_of minutes_of two_of is_date day_of leap months days_in days_to year_days days_before instrument_of bvmf changes_of entry_in_x book_entry values_of sort_of price_of amount_of fraction_of entry_in_w shown_entry by_of id_of is_id moment_in empty_book empty_all
+reads =
+    record {
+      says_empty = refl;
+      m4_point = refl;
+      m4_many = refl;
+      says_eight = refl;
+      says_first = refl;
+      says_second = refl;
+      says_third = refl;
+      says_at_1 = refl;
+      says_at_4 = refl;
+      says_at_2 = refl;
+      says_one_of_two = refl;
+      says_two_of_two = refl;
+      says_fourth = refl;
+      says_all_empty = refl;
+      bad_with_22 = refl;
+      bad_with_207 = refl;
+      bad_bid_without_48 = refl;
+    }
+
+pub says_empty : message_in 0 empty_book_bytes ≡ snapshot (record { number = 1; heard = 64968180540000; id = 7; last = 0; loops = 1 }) []
+says_empty = reads.says_empty
+
+-- ---- M4
 pub m4_point : message_in 0 point_alone ≡ refused BadFields
-unfolding message_in typed_as or_bad_fields changes_of group_of each frame_of body_of fields_of cut field_of ranged_of whole_of digits_of bytes_of field_bytes decimal width_of width_to fixed tidy up_to past parts all_tidy lookup has stands moment_of date_of time_of clock_of minutes_of two_of is_date day_of leap months days_in days_to year_days days_before instrument_of bvmf entry_in_x book_entry values_of sort_of price_of amount_of fraction_of
-m4_point = refl
+m4_point = reads.m4_point
 
 pub m4_many : message_in 0 too_many_decimals ≡ refused BadFields
-unfolding message_in typed_as or_bad_fields changes_of group_of each frame_of body_of fields_of cut field_of ranged_of whole_of digits_of bytes_of field_bytes decimal width_of width_to fixed tidy up_to past parts all_tidy lookup has stands moment_of date_of time_of clock_of minutes_of two_of is_date day_of leap months days_in days_to year_days days_before instrument_of bvmf entry_in_x book_entry values_of sort_of price_of amount_of fraction_of
-m4_many = refl
+m4_many = reads.m4_many
 
 pub says_eight : message_in 0 eight_decimals ≡ eight_says
-unfolding message_in typed_as or_bad_fields changes_of snapshot_of head_of group_of each running frame_of body_of fields_of cut field_of ranged_of whole_of digits_of bytes_of field_bytes decimal width_of width_to fixed tidy up_to past parts all_tidy lookup has stands moment_of date_of time_of clock_of minutes_of two_of is_date day_of leap months days_in days_to year_days days_before instrument_of bvmf entry_in_x book_entry entry_in_w shown_entry values_of sort_of price_of amount_of fraction_of by_of id_of is_id moment_in
-says_eight = refl
+says_eight = reads.says_eight
 
 -- ---- M11 and M12
 pub says_first : message_in 0 first ≡ first_says
-unfolding message_in typed_as or_bad_fields changes_of snapshot_of head_of group_of each running frame_of body_of fields_of cut field_of ranged_of whole_of digits_of bytes_of field_bytes decimal width_of width_to fixed tidy up_to past parts all_tidy lookup has stands moment_of date_of time_of clock_of minutes_of two_of is_date day_of leap months days_in days_to year_days days_before instrument_of bvmf entry_in_x book_entry entry_in_w shown_entry values_of sort_of price_of amount_of fraction_of by_of id_of is_id moment_in
-says_first = refl
+says_first = reads.says_first
 
 pub says_second : message_in 0 second ≡ second_says
-unfolding message_in typed_as or_bad_fields changes_of snapshot_of head_of group_of each running frame_of body_of fields_of cut field_of ranged_of whole_of digits_of bytes_of field_bytes decimal width_of width_to fixed tidy up_to past parts all_tidy lookup has stands moment_of date_of time_of clock_of minutes_of two_of is_date day_of leap months days_in days_to year_days days_before instrument_of bvmf entry_in_x book_entry entry_in_w shown_entry values_of sort_of price_of amount_of fraction_of by_of id_of is_id moment_in
-says_second = refl
+says_second = reads.says_second
 
 pub says_third : message_in 0 third ≡ third_says
-unfolding message_in typed_as or_bad_fields changes_of snapshot_of head_of group_of each running frame_of body_of fields_of cut field_of ranged_of whole_of digits_of bytes_of field_bytes decimal width_of width_to fixed tidy up_to past parts all_tidy lookup has stands moment_of date_of time_of clock_of minutes_of two_of is_date day_of leap months days_in days_to year_days days_before instrument_of bvmf entry_in_x book_entry entry_in_w shown_entry values_of sort_of price_of amount_of fraction_of by_of id_of is_id moment_in
-says_third = refl
+says_third = reads.says_third
 
 pub says_at_1 : message_in 0 at_1 ≡ shows 1 bid_1
-unfolding message_in typed_as or_bad_fields changes_of snapshot_of head_of group_of each running frame_of body_of fields_of cut field_of ranged_of whole_of digits_of bytes_of field_bytes decimal width_of width_to fixed tidy up_to past parts all_tidy lookup has stands moment_of date_of time_of clock_of minutes_of two_of is_date day_of leap months days_in days_to year_days days_before instrument_of bvmf entry_in_x book_entry entry_in_w shown_entry values_of sort_of price_of amount_of fraction_of by_of id_of is_id moment_in
-says_at_1 = refl
+says_at_1 = reads.says_at_1
 
 pub says_at_4 : message_in 0 at_4 ≡ shows 4 bid_2
-unfolding message_in typed_as or_bad_fields changes_of snapshot_of head_of group_of each running frame_of body_of fields_of cut field_of ranged_of whole_of digits_of bytes_of field_bytes decimal width_of width_to fixed tidy up_to past parts all_tidy lookup has stands moment_of date_of time_of clock_of minutes_of two_of is_date day_of leap months days_in days_to year_days days_before instrument_of bvmf entry_in_x book_entry entry_in_w shown_entry values_of sort_of price_of amount_of fraction_of by_of id_of is_id moment_in
-says_at_4 = refl
+says_at_4 = reads.says_at_4
 
 pub says_at_2 : message_in 0 at_2 ≡ shows 2 bid_2
-unfolding message_in typed_as or_bad_fields changes_of snapshot_of head_of group_of each running frame_of body_of fields_of cut field_of ranged_of whole_of digits_of bytes_of field_bytes decimal width_of width_to fixed tidy up_to past parts all_tidy lookup has stands moment_of date_of time_of clock_of minutes_of two_of is_date day_of leap months days_in days_to year_days days_before instrument_of bvmf entry_in_x book_entry entry_in_w shown_entry values_of sort_of price_of amount_of fraction_of by_of id_of is_id moment_in
-says_at_2 = refl
+says_at_2 = reads.says_at_2
 
 -- ---- a loop
 pub says_one_of_two : message_in 0 one_of_two ≡ one_says
-unfolding message_in typed_as or_bad_fields changes_of snapshot_of head_of group_of each running frame_of body_of fields_of cut field_of ranged_of whole_of digits_of bytes_of field_bytes decimal width_of width_to fixed tidy up_to past parts all_tidy lookup has stands moment_of date_of time_of clock_of minutes_of two_of is_date day_of leap months days_in days_to year_days days_before instrument_of bvmf entry_in_x book_entry entry_in_w shown_entry values_of sort_of price_of amount_of fraction_of by_of id_of is_id moment_in
-says_one_of_two = refl
+says_one_of_two = reads.says_one_of_two
 
 pub says_two_of_two : message_in 0 two_of_two ≡ two_says
-unfolding message_in typed_as or_bad_fields changes_of snapshot_of head_of group_of each running frame_of body_of fields_of cut field_of ranged_of whole_of digits_of bytes_of field_bytes decimal width_of width_to fixed tidy up_to past parts all_tidy lookup has stands moment_of date_of time_of clock_of minutes_of two_of is_date day_of leap months days_in days_to year_days days_before instrument_of bvmf entry_in_x book_entry entry_in_w shown_entry values_of sort_of price_of amount_of fraction_of by_of id_of is_id moment_in
-says_two_of_two = refl
+says_two_of_two = reads.says_two_of_two
 
 pub says_fourth : message_in 0 fourth ≡ fourth_says
-unfolding message_in typed_as or_bad_fields changes_of snapshot_of head_of group_of each running frame_of body_of fields_of cut field_of ranged_of whole_of digits_of bytes_of field_bytes decimal width_of width_to fixed tidy up_to past parts all_tidy lookup has stands moment_of date_of time_of clock_of minutes_of two_of is_date day_of leap months days_in days_to year_days days_before instrument_of bvmf entry_in_x book_entry entry_in_w shown_entry values_of sort_of price_of amount_of fraction_of by_of id_of is_id moment_in
-says_fourth = refl
+says_fourth = reads.says_fourth
 
 -- ---- J without 48
 pub says_all_empty : message_in 0 all_empty_bytes ≡ all_says
-unfolding message_in typed_as or_bad_fields changes_of group_of each frame_of body_of fields_of cut field_of ranged_of whole_of digits_of bytes_of field_bytes decimal width_of width_to fixed tidy up_to past parts all_tidy lookup has stands moment_of date_of time_of clock_of minutes_of two_of is_date day_of leap months days_in days_to year_days days_before instrument_of bvmf entry_in_x book_entry empty_book empty_all values_of sort_of price_of amount_of fraction_of
-says_all_empty = refl
+says_all_empty = reads.says_all_empty
 
 pub bad_with_22 : message_in 0 all_empty_22 ≡ refused BadFields
-unfolding message_in typed_as or_bad_fields changes_of group_of each frame_of body_of fields_of cut field_of ranged_of whole_of digits_of bytes_of field_bytes decimal width_of width_to fixed tidy up_to past parts all_tidy lookup has stands moment_of date_of time_of clock_of minutes_of two_of is_date day_of leap months days_in days_to year_days days_before instrument_of bvmf entry_in_x book_entry empty_book empty_all values_of sort_of price_of amount_of fraction_of
-bad_with_22 = refl
+bad_with_22 = reads.bad_with_22
 
 pub bad_with_207 : message_in 0 all_empty_207 ≡ refused BadFields
-unfolding message_in typed_as or_bad_fields changes_of group_of each frame_of body_of fields_of cut field_of ranged_of whole_of digits_of bytes_of field_bytes decimal width_of width_to fixed tidy up_to past parts all_tidy lookup has stands moment_of date_of time_of clock_of minutes_of two_of is_date day_of leap months days_in days_to year_days days_before instrument_of bvmf entry_in_x book_entry empty_book empty_all values_of sort_of price_of amount_of fraction_of
-bad_with_207 = refl
+bad_with_207 = reads.bad_with_207
 
 pub bad_bid_without_48 : message_in 0 bid_without_48 ≡ refused BadFields
-unfolding message_in typed_as or_bad_fields changes_of group_of each frame_of body_of fields_of cut field_of ranged_of whole_of digits_of bytes_of field_bytes decimal width_of width_to fixed tidy up_to past parts all_tidy lookup has stands moment_of date_of time_of clock_of minutes_of two_of is_date day_of leap months days_in days_to year_days days_before instrument_of bvmf entry_in_x book_entry empty_book empty_all values_of sort_of price_of amount_of fraction_of
-bad_bid_without_48 = refl
+bad_bid_without_48 = reads.bad_bid_without_48
