@@ -25,8 +25,7 @@ pub fn listed(
     ensures { Lists (grouped depth t.now count (left s.now start)) result run.old run.new }
 {
     let end = s.len();
-    let first = t.first();
-    let low = t.low();
+    let rules = t.rules();
     let mut n: usize = 0;
     let mut next = Next { bid: 1, offer: 1 };
     let mut more = count;
@@ -35,7 +34,7 @@ pub fn listed(
         let Step { tag, from, to } = chain::field(s, at)?;
         at = to + 1;
         let k = tags::slot(tag);
-        if tag != first {
+        if tag != rules.stop {
             // before the first entry no tag named stands
             if k < tags::NAMED {
                 return None;
@@ -48,7 +47,7 @@ pub fn listed(
         more -= 1;
         let mut marks = tags::no_marks();
         marks.spans[k] = Some(Span { from, to });
-        at = place::walk(s, at, &mut marks, first, tags::NAMED, low, position::ENTRY_END)?;
+        at = place::walk(s, at, &mut marks, rules)?;
         let entry = Values {
             text: s,
             marks: &marks,
