@@ -25,7 +25,8 @@ pub fn listed(
     ensures { Lists (grouped depth t.now count (left s.now start)) result run.old run.new }
 {
     let end = s.len();
-    let rules = t.rules();
+    let first = t.first();
+    let low = t.low();
     let mut n: usize = 0;
     let mut next = Next { bid: 1, offer: 1 };
     let mut more = count;
@@ -34,7 +35,7 @@ pub fn listed(
         let Step { tag, from, to } = chain::field(s, at)?;
         at = to + 1;
         let k = tags::slot(tag);
-        if tag != rules.stop {
+        if tag != first {
             // before the first entry no tag named stands
             if k < tags::NAMED {
                 return None;
@@ -47,7 +48,7 @@ pub fn listed(
         more -= 1;
         let mut marks = tags::no_marks();
         marks.spans[k] = Some(Span { from, to });
-        at = place::walk(s, at, &mut marks, rules)?;
+        at = place::walk(s, at, &mut marks, first, tags::NAMED, low, position::ENTRY_END)?;
         let entry = Values {
             text: s,
             marks: &marks,

@@ -8,7 +8,6 @@ use Rattle.message.specs.declared.Kind.TheVariants.{Numbered, Snapshot}
 use Rattle.digits.specs.Digits.{ranged_of}
 use Rattle.chain.specs.Fields.{Field}
 use Rattle.chain.specs.Places.{left}
-use Rattle.place.specs.declared.Rules.{Rules}
 use Rattle.values.specs.Values.{◌>>=◌, Values, seq_at, heard_at, instrument_of, last_at, loops_at}
 use Rattle.group.specs.Listed.{grouped}
 use Rattle.position.specs.declared.Top.{Top}
@@ -38,10 +37,6 @@ top_by Snapshot v = top_w v
 abbrev pub head_end : Kind → ℕ
 head_end Numbered = 6
 head_end Snapshot = 11
-
--- The rules of what stands there: it ends before 268.
-abbrev pub head_rules : Kind → Rules
-head_rules k = record { stop = 268; named = 21; low = 4; high = head_end k }
 
 -- What the fields between 35 and 10 of an X say, and of a W.
 abbrev pub body_by : Kind → ℕ → List Field → Option Message

@@ -6,12 +6,11 @@ ghost use Rattle.std.specs.Prelude.{◌≡◌};
 ghost use Rattle.chain.specs.Places.{left};
 ghost use Rattle.tags.specs.ByTag.{by_tag};
 ghost use Rattle.lead.specs.Messages.{other_of, typed_as};
-ghost use Rattle.lead.specs.Leads.{top_x, top_w, top_by, head_rules, body_by, telling, group_said, Leads};
+ghost use Rattle.lead.specs.Leads.{top_x, top_w, top_by, head_end, body_by, telling, group_said, Leads};
 ghost use Rattle.lead.specs.LeadOf.{counted_lead, group_lead, other_lead, lead_of};
 
 use chain::Step;
 use message::Kind;
-use place::Rules;
 use position::Top;
 use tags::Values;
 
@@ -20,35 +19,12 @@ const COUNT_TAG: u64 = 268;
 
 const NO_TAG: u64 = 0;
 
-// The rules of what stands before 268 in X and in W.
-const HEAD_X: Rules = Rules {
-    stop: COUNT_TAG,
-    named: tags::NAMED,
-    low: tags::SEQ,
-    high: tags::LAST,
-};
+// The slots that may stand before 268 in X and in W, up to a last one.
+const HEAD: usize = tags::SEQ;
 
-const HEAD_W: Rules = Rules {
-    stop: COUNT_TAG,
-    named: tags::NAMED,
-    low: tags::SEQ,
-    high: tags::ACTION,
-};
+const HEAD_X_END: usize = tags::LAST;
 
-// Those in the other types, where they hold for 34 and 52 only, and of what follows there.
-const HEAD_OTHER: Rules = Rules {
-    stop: COUNT_TAG,
-    named: tags::LAST,
-    low: tags::SEQ,
-    high: tags::LAST,
-};
-
-const REST_OTHER: Rules = Rules {
-    stop: NO_TAG,
-    named: tags::LAST,
-    low: 0,
-    high: 0,
-};
+const HEAD_W_END: usize = tags::ACTION;
 
 // What leads to the entries: what stands before them, the place where they start, and what 268 says. Where there is no
 // group, they start at the end and 268 is 0.
@@ -104,13 +80,13 @@ fn top(v: Values, kind: Kind) -> Option<Top>
     }
 }
 
-// The rules of what stands there.
-fn head_rules(kind: Kind) -> Rules
-    ensures { result ≡ head_rules kind }
+// The slot up to which tags may stand there.
+fn head_end(kind: Kind) -> usize
+    ensures { result ≡ head_end kind }
 {
     match kind {
-        Kind::Numbered => HEAD_X,
-        Kind::Snapshot => HEAD_W,
+        Kind::Numbered => HEAD_X_END,
+        Kind::Snapshot => HEAD_W_END,
     }
 }
 
@@ -132,7 +108,7 @@ fn with_group(s: &[u8], kind: Kind) -> Option<Lead>
     ensures { Leads s.now result (group_lead kind s.now) (λ depth. telling (body_by kind depth (left s.now 0))) }
 {
     let mut marks = tags::no_marks();
-    let at = place::walk(s, 0, &mut marks, head_rules(kind))?;
+    let at = place::walk(s, 0, &mut marks, COUNT_TAG, tags::NAMED, HEAD, head_end(kind))?;
     let head = Values {
         text: s,
         marks: &marks,
@@ -146,9 +122,9 @@ fn other(s: &[u8]) -> Option<Lead>
     ensures { Leads s.now result (other_lead s.now) (λ depth. telling (other_of (left s.now 0))) }
 {
     let mut marks = tags::no_marks();
-    let at = place::walk(s, 0, &mut marks, HEAD_OTHER)?;
+    let at = place::walk(s, 0, &mut marks, COUNT_TAG, HEAD_X_END, HEAD, HEAD_X_END)?;
     let mut rest = tags::no_marks();
-    place::walk(s, at, &mut rest, REST_OTHER)?;
+    place::walk(s, at, &mut rest, NO_TAG, HEAD_X_END, 0, 0)?;
     let head = Values {
         text: s,
         marks: &marks,

@@ -20,7 +20,7 @@ use Rattle.tags.specs.declared.Span.{Span}
 use Rattle.tags.proofs.Marking.{none_held, with_span, held_more}
 use Rattle.tags.proofs.Tidiness.{fits, fits_test, tidy_nil, tidy_more}
 use Rattle.place.specs.Places.{Place, split_from, Tells}
-use Rattle.place.specs.Walks.{soh_at, mark_at, walk_on, marks_on, Walk}
+use Rattle.place.specs.Walks.{soh_at, mark_at, walk_on, Walk}
 use Rattle.place.proofs.Splits.{split_end, split_stop, split_stray, split_more}
 
 -- a field that does not stray was not seen
@@ -59,7 +59,6 @@ module _ (s : List ℕ) (start stop named low high : ℕ) (first : Marks) where
     pub top : high ≤ 21
     pub breaks : breaks stop named low high ≡ true
     pub exact : walk_on stop named low high start first whole ≡ walk_on stop named low high at m (left s at)
-    pub marked : marks_on stop named low high start first whole ≡ marks_on stop named low high at m (left s at)
     pub told : (e : List Field) → Holds named s first e → tidy (below named) (between low high) e ≡ true → Passed e m at
 
   pub walk_start : named ≤ 21 → high ≤ 21 → breaks stop named low high ≡ true → Walks first start
@@ -69,7 +68,6 @@ module _ (s : List ℕ) (start stop named low high : ℕ) (first : Marks) where
         top = g;
         breaks = b;
         exact = refl;
-        marked = refl;
         told = λ e h t. record { passed = e; holds = h; tidy = t; same = refl };
       }
 
@@ -84,16 +82,7 @@ module _ (s : List ℕ) (start stop named low high : ℕ) (first : Marks) where
               rw (p.same, walked s at l, split_end stop named low high p.passed p.tidy) (record { holds = p.holds; rest = walked s at l });
         }
 
-    pub marks_end : length s ≤ at → m ≡ marks_on stop named low high start first whole
-    unfolding marks_on
-    marks_end l = sym (w.marked ∙ ap (marks_on stop named low high at m) (walked s at l))
-
     -- a field that strays
-    strayed_marks : (f : Field) (fs : List Field) → left s at ≡ f ∷ fs → (f.tag ≡ stop → ⊥)
-        → strays (slot_of f.tag) named low high (is_some (get_or m.spans (slot_of f.tag) None)) ≡ true → m ≡ marks_on stop named low high start first whole
-    unfolding marks_on
-    strayed_marks f fs q other h = sym (w.marked ∙ rw (q, ne_eqb f.tag stop other, h))
-
     strayed : (f : Field) (fs : List Field) → left s at ≡ f ∷ fs → (f.tag ≡ stop → ⊥)
         → strays (slot_of f.tag) named low high (is_some (get_or m.spans (slot_of f.tag) None)) ≡ true
         → Walk s start stop named low high first None
@@ -111,12 +100,6 @@ module _ (s : List ℕ) (start stop named low high : ℕ) (first : Marks) where
     tells_broken l e =
         let b = both (not (eqb 8 stop)) (strays 0 named low high false) w.breaks in
         strayed broken [] (left_no s at l e) (eqb-false 8 stop (not-true (eqb 8 stop) b.0))
-        (broken_strays named low high (is_some (get_or m.spans (slot_of 8) None)) b.1)
-
-    pub marks_broken : at < length s → field_at s at ≡ None → m ≡ marks_on stop named low high start first whole
-    marks_broken l e =
-        let b = both (not (eqb 8 stop)) (strays 0 named low high false) w.breaks in
-        strayed_marks broken [] (left_no s at l e) (eqb-false 8 stop (not-true (eqb 8 stop) b.0))
         (broken_strays named low high (is_some (get_or m.spans (slot_of 8) None)) b.1)
 
     module _ (tag from to : ℕ) (l : at < length s) (step : field_at s at ≡ Some (step tag from to)) where
@@ -143,22 +126,15 @@ module _ (s : List ℕ) (start stop named low high : ℕ) (first : Marks) where
                 rw (p.same, on, split_stop stop named low high p.passed p.tidy f (left s (to + 1)) q) (record { holds = p.holds; rest = on });
           }
 
-      pub marks_stop : tag ≡ stop → m ≡ marks_on stop named low high start first whole
-      unfolding marks_on
-      marks_stop q = sym (w.marked ∙ rw (on, eq-eqb tag stop q))
-
       module _ (other : tag ≡ stop → ⊥) (k : ℕ) (slot : k ≡ slot_of tag) where
         pub tells_stray : strays k named low high (is_some (get_or m.spans k None)) ≡ true → Walk s start stop named low high first None
         tells_stray h = strayed f (left s (to + 1)) on other (rw slot at h)
-
-        pub marks_stray : strays k named low high (is_some (get_or m.spans k None)) ≡ true → m ≡ marks_on stop named low high start first whole
-        marks_stray h = strayed_marks f (left s (to + 1)) on other (rw slot at h)
 
         marked_so : mark_at at f m ≡ with_span m k from to
         marked_so = rw (starts, ends, slot)
 
         pub walk_more : strays k named low high (is_some (get_or m.spans k None)) ≡ false → k ≤ 21 → Walks (with_span m k from to) (to + 1)
-        unfolding walk_on marks_on
+        unfolding walk_on
         walk_more h b =
             let p = found s at step in
             let i : strays (slot_of tag) named low high (is_some (get_or m.spans (slot_of tag) None)) ≡ false = rw slot at h in
@@ -169,9 +145,6 @@ module _ (s : List ℕ) (start stop named low high : ℕ) (first : Marks) where
               exact = w.exact ∙ rw (on, ne_eqb tag stop other, i)
                   (ap (λ (n : ℕ). walk_on stop named low high (n + 1) (mark_at at f m) (left s (to + 1))) ends
                   ∙ ap (λ (j : Marks). walk_on stop named low high (to + 1) j (left s (to + 1))) marked_so);
-              marked = w.marked ∙ rw (on, ne_eqb tag stop other, i)
-                  (ap (λ (n : ℕ). marks_on stop named low high (n + 1) (mark_at at f m) (left s (to + 1))) ends
-                  ∙ ap (λ (j : Marks). marks_on stop named low high (to + 1) j (left s (to + 1))) marked_so);
               told = λ e g t.
                   let v = w.told e g t in
                   let fit : fits (below named) (between low high) v.passed f ≡ true = fits_test s m v.passed named low high v.holds w.few w.top f ∙ ap not i in

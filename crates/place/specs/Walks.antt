@@ -27,14 +27,6 @@ walk_on stop named low high at m (f ∷ fs) =
     (cond (strays (slot_of f.tag) named low high (is_some (get_or m.spans (slot_of f.tag) None))) None
     (walk_on stop named low high (soh_at at f + 1) (mark_at at f m) fs))
 
--- What is marked then, whether a rule is breached or not.
-unfoldable pub marks_on : ℕ → ℕ → ℕ → ℕ → ℕ → Marks → List Field → Marks
-marks_on stop named low high at m [] = m
-marks_on stop named low high at m (f ∷ fs) =
-    cond (eqb f.tag stop) m
-    (cond (strays (slot_of f.tag) named low high (is_some (get_or m.spans (slot_of f.tag) None))) m
-    (marks_on stop named low high (soh_at at f + 1) (mark_at at f m) fs))
-
 -- What a walk answers that starts with marks, and what that tells of the place, where they mark what has come of it.
 pub record Walk (s : List ℕ) (start stop named low high : ℕ) (m : Marks) (r : Option Place) : Type 0 where
   pub exact : r ≡ walk_on stop named low high start m (left s start)

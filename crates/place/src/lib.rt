@@ -3,41 +3,37 @@
 #![tactic(auto)]
 
 ghost use Rattle.std.specs.Prelude.{true, ◌≡◌, ◌≤◌};
-ghost use Rattle.chain.specs.Places.{left};
 ghost use Rattle.tags.specs.Slots.{breaks};
 ghost use Rattle.place.specs.Places.{place_of};
-ghost use Rattle.place.specs.Walks.{marks_on, Walk};
+ghost use Rattle.place.specs.Walks.{Walk};
 
 use chain::Step;
 use tags::{Marks, Span};
 
-// The rules of a place: it ends before the first field with the tag `stop`; of the first `named` slots only those from `low`
-// up to `high` may stand in it, each once, and bytes that are no field may not.
-#[derive(Clone, Copy)]
-pub struct Rules {
-    pub stop: u64,
-    pub named: usize,
-    pub low: usize,
-    pub high: usize,
-}
-
-// Walks a place from `start` on and marks each field that it passes. It answers where the place ends, unless a rule is
-// breached.
-pub fn walk(s: &[u8], start: usize, marks: &mut Marks, rules: Rules) -> Option<usize>
-    requires { (rules.named ≤ 21) × ((rules.high ≤ 21) × (breaks rules.stop rules.named rules.low rules.high ≡ true)) }
-    ensures walks { Walk s.now start rules.stop rules.named rules.low rules.high marks.old (place_of result marks.new) }
-    ensures marked { marks.new ≡ marks_on rules.stop rules.named rules.low rules.high start marks.old (left s.now start) }
+// Walks a place from `start` up to the first field with the tag `stop`, or to the end, and marks each field that it
+// passes. It answers where the place ends, unless a rule is breached: of the first `named` slots only those from low up
+// to high may stand in it, each once, and bytes that are no field may not.
+pub fn walk(
+    s: &[u8],
+    start: usize,
+    marks: &mut Marks,
+    stop: u64,
+    named: usize,
+    low: usize,
+    high: usize,
+) -> Option<usize>
+    requires { (named ≤ 21) × ((high ≤ 21) × (breaks stop named low high ≡ true)) }
+    ensures { Walk s.now start stop named low high marks.old (place_of result marks.new) }
 {
     let end = s.len();
     let mut at = start;
     while at < end {
         let Step { tag, from, to } = chain::field(s, at)?;
-        if tag == rules.stop {
+        if tag == stop {
             return Some(at);
         }
         let k = tags::slot(tag);
-        let seen = marks.spans[k].is_some();
-        if tags::stray(k, rules.named, rules.low, rules.high, seen) {
+        if tags::stray(k, named, low, high, marks.spans[k].is_some()) {
             return None;
         }
         marks.spans[k] = Some(Span { from, to });

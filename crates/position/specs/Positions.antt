@@ -4,7 +4,6 @@ use Rattle.std.specs.Prelude.{ℕ, ◌+◌, cond, ◌||◌, eqb}
 use Rattle.book.specs.declared.Update.{Update}
 use Rattle.message.specs.declared.Kind.{Kind}
 use Rattle.message.specs.declared.Kind.TheVariants.{Numbered, Snapshot}
-use Rattle.place.specs.declared.Rules.{Rules}
 use Rattle.values.specs.Values.{◌>>=◌, need, Values}
 use Rattle.entries.specs.Entries.{entry_in_x, entry_in_w}
 use Rattle.position.specs.declared.Next.{Next}
@@ -18,10 +17,6 @@ first_of Snapshot = 269
 abbrev pub low_of : Kind → ℕ
 low_of Numbered = 8
 low_of Snapshot = 12
-
--- The rules of an entry: of all tags named those from low up to 268 may stand in it, and the next entry's first tag ends it.
-abbrev pub rules_of : Kind → Rules
-rules_of k = record { stop = first_of k; named = 21; low = low_of k; high = 20 }
 
 -- In W the positions on each side run 1, 2, 3 in the order written: the next position of a side (0 bids), and the next
 -- ones after an entry of it.

@@ -4,27 +4,23 @@
 
 ghost use Rattle.std.specs.Prelude.{◌≡◌, ◌<◌};
 ghost use Rattle.tags.specs.ByTag.{by_tag};
-ghost use Rattle.position.specs.Positions.{rules_of, next_on, next_after, entry_next};
+ghost use Rattle.position.specs.Positions.{first_of, low_of, next_on, next_after, entry_next};
 
 use entries::Said;
 use message::Kind;
-use place::Rules;
 use tags::Values;
 
-// The rules of an entry of X and of W: it begins with its first tag, and ends before the next one's.
-const ENTRY_X: Rules = Rules {
-    stop: 279,
-    named: tags::NAMED,
-    low: tags::INSTRUMENT,
-    high: tags::COUNT,
-};
+// The first tag of an entry in X and in W.
+pub const FIRST_X: u64 = 279;
 
-const ENTRY_W: Rules = Rules {
-    stop: 269,
-    named: tags::NAMED,
-    low: tags::SORT,
-    high: tags::COUNT,
-};
+pub const FIRST_W: u64 = 269;
+
+// The slots that may stand in an entry of X and of W, up to a last one.
+pub const ENTRY_X: usize = tags::INSTRUMENT;
+
+pub const ENTRY_W: usize = tags::SORT;
+
+pub const ENTRY_END: usize = tags::COUNT;
 
 // What stands before a group: what the message is, and the reading's numbers.
 #[derive(Clone, Copy)]
@@ -38,9 +34,19 @@ pub struct Top {
 }
 
 impl Top {
-    // The rules of an entry.
-    pub fn rules(&self) -> Rules
-        ensures { result ≡ rules_of self.now.kind }
+    // The first tag of an entry.
+    pub fn first(&self) -> u64
+        ensures { result ≡ first_of self.now.kind }
+    {
+        match self.kind {
+            Kind::Numbered => FIRST_X,
+            Kind::Snapshot => FIRST_W,
+        }
+    }
+
+    // The first slot that may stand in an entry.
+    pub fn low(&self) -> usize
+        ensures { result ≡ low_of self.now.kind }
     {
         match self.kind {
             Kind::Numbered => ENTRY_X,

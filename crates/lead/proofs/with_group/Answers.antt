@@ -5,12 +5,12 @@ use Rattle.lead.proofs.with_group.Goals as goal
 
 pub returns-in_err-at : goal.returns-in_err-at
 returns-in_err-at c =
-    untidy_leads _ _ c.from_residual.ensures (rw (c.head_rules.ensures, c.no_marks-marks.ensures, c.in_err-at.was) at c.walk.ensures.walks)
+    untidy_leads _ _ c.from_residual.ensures (rw (c.head_end.ensures, c.no_marks-marks.ensures, c.in_err-at.was) at c.walk.ensures)
 
 pub returns-in_err-top : goal.returns-in_err-top
 returns-in_err-top c =
-    topless_leads _ _ (rw (c.head_rules.ensures, c.no_marks-marks.ensures, c.in_ok-at.was) at c.walk.ensures.walks) c.from_residual-in_err-top.ensures (sym c.top.ensures ∙ c.in_err-top.was)
+    topless_leads _ _ (rw (c.head_end.ensures, c.no_marks-marks.ensures, c.in_ok-at.was) at c.walk.ensures) c.from_residual-in_err-top.ensures (sym c.top.ensures ∙ c.in_err-top.was)
 
 pub returns : goal.returns
 returns c =
-    topped_leads _ _ (rw (c.head_rules.ensures, c.no_marks-marks.ensures, c.in_ok-at.was) at c.walk.ensures.walks) (sym c.top.ensures ∙ c.in_ok-top.was) c.counted.ensures
+    topped_leads _ _ (rw (c.head_end.ensures, c.no_marks-marks.ensures, c.in_ok-at.was) at c.walk.ensures) (sym c.top.ensures ∙ c.in_ok-top.was) c.counted.ensures
