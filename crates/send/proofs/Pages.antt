@@ -64,30 +64,27 @@ module _ (s : State) (i : ℕ) (l : Letter) (id : ℕ) where
       let e : (at i (board_in s)).waiting ≡ false = waits_at h ∙ w in
       rw (followed_by h, e, at_board i s h)
 
--- ---- the arguments
+-- ---- a call, test by test
 
-module _ (id : ℕ) (sender target : List ℕ) (k m : ℕ) (time xs : List ℕ) where
+module _ (id : ℕ) (sender target : List ℕ) (k m : ℕ) (time room xs : List ℕ) where
   -- what is said of the page is said of the call
-  pub sent : (room : List ℕ) (p : Page) → sent_page id sender target k m time xs ≡ p
-      → Sent id sender target k m time room xs (page_answer p room) (page_out p room)
+  sent : (p : Page) → sent_page id sender target k m time xs ≡ p → Sent id sender target k m time room xs (page_answer p room) (page_out p room)
   unfolding send_answer send_out
-  sent room p e = record { answer = sym (ap (λ (q : Page). page_answer q room) e); out = sym (ap (λ (q : Page). page_out q room) e) }
+  sent p e = record { answer = sym (ap (λ (q : Page). page_answer q room) e); out = sym (ap (λ (q : Page). page_out q room) e) }
 
-  pub unsound : sound xs ≡ false → sent_page id sender target k m time xs ≡ refusal 17
+  pub unsound : sound xs ≡ false → Sent id sender target k m time room xs 17 room
   unfolding sent_page
-  unsound s = rw s
+  unsound s = sent (refusal 17) (rw s)
 
-  module _ (s : sound xs ≡ true) where
-    pub no_time : moment_of time ≡ None → sent_page id sender target k m time xs ≡ refusal 18
-    unfolding sent_page
-    no_time e = rw (s, e)
+  pub no_time : sound xs ≡ true → moment_of time ≡ None → Sent id sender target k m time room xs 18 room
+  unfolding sent_page
+  no_time s e = sent (refusal 18) (rw (s, e))
 
-    module _ (t : ℕ) (read : moment_of time ≡ Some t) where
-      pub bad : arguments_fine id sender target k m ≡ false → sent_page id sender target k m time xs ≡ refusal 18
-      unfolding sent_page
-      bad e = rw (s, read, e)
+  pub bad : (t : ℕ) → sound xs ≡ true → moment_of time ≡ Some t → arguments_fine id sender target k m ≡ false → Sent id sender target k m time room xs 18 room
+  unfolding sent_page
+  bad t s read e = sent (refusal 18) (rw (s, read, e))
 
-      pub good : arguments_fine id sender target k m ≡ true
-          → sent_page id sender target k m time xs ≡ page_at (look id (board_at xs).insts) (letter sender target k m t) id (board_at xs)
-      unfolding sent_page
-      good e = rw (s, read, e)
+  pub good : (t : ℕ) → sound xs ≡ true → moment_of time ≡ Some t → arguments_fine id sender target k m ≡ true
+      → (let p = page_at (look id (board_at xs).insts) (letter sender target k m t) id (board_at xs) in Sent id sender target k m time room xs (page_answer p room) (page_out p room))
+  unfolding sent_page
+  good t s read e = sent (page_at (look id (board_at xs).insts) (letter sender target k m t) id (board_at xs)) (rw (s, read, e))

@@ -74,6 +74,7 @@ fn write_book(
 }
 
 // The snapshot of a sound store's instrument, its arguments in their ranges.
+#[tactic(auto, using(sound::proofs::Readers::formed, sound::proofs::Readers::marks))]
 fn write_sound(
     store: &[u64],
     id: u64,

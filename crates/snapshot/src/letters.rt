@@ -22,6 +22,7 @@ pub struct Letter<'a> {
 }
 
 // What is written: the book of the instrument with this SecurityID, with 369 = last. Depth 0 is an order-depth channel.
+// Kept: depth is a number and no enum, as the heading has it (`heading::Heading`) and `snapshot_fields`, which `Sent` rests on, says it.
 #[derive(Clone, Copy)]
 pub struct Sheet<'a> {
     pub depth: u64,

@@ -5,27 +5,14 @@ use Prim.Native.Nat.{◌<◌}
 use native.Mathlib.Omega.{arith}
 use Rattle.heading.specs.Marks.{marked}
 use Rattle.board.specs.Board.{look}
-use Rattle.store.specs.Meaning.{st, loaded, heading_at, board_at, book_at}
-use Rattle.store.specs.Canon.{Formed}
+use Rattle.store.specs.Meaning.{loaded, heading_at, board_at, book_at}
 use Rattle.snapshot.specs.Writing.{letter_of}
 use Rattle.writer.specs.Writing.{page_of}
 use Rattle.send.specs.Send.{Page, message, refusal, page_at, page_answer, page_out}
-use Rattle.sound.proofs.Readers.{formed, marks}
+use Rattle.sound.proofs.Readers.{formed}
 use Rattle.send.proofs.Facts.{ready}
 use Rattle.send.proofs.Pages.{not_followed, is_waiting, is_live}
 use Rattle.send.proofs.write_sound.Goals as goal
-
-pub load_heading-h-requires : goal.load_heading-h-requires
-load_heading-h-requires c =
-    let x = c.args in
-    let s = c.requires.0 in
-    ((formed x.store.now s).long, marks x.store.now s)
-
-pub find-i-requires : goal.find-i-requires
-find-i-requires c =
-    let x = c.args in
-    let f : Formed (st c.load_heading-h.result x.store.now) = rw c.load_heading-h.ensures (formed x.store.now c.requires.0) in
-    (f.long, f.few)
 
 pub returns-then-h-i : goal.returns-then-h-i
 returns-then-h-i c =
@@ -40,12 +27,6 @@ returns-then-h-i c =
       out_after = sym (ap (λ (y : Page). page_out y x.out.now) p);
       short = tt;
     }
-
-pub waits-requires : goal.waits-requires
-waits-requires c =
-    let x = c.args in
-    let f : Formed (st c.load_heading-h.result x.store.now) = rw c.load_heading-h.ensures (formed x.store.now c.requires.0) in
-    omega (arith, f.few, c.if-h-i.false)
 
 pub returns-then-waits : goal.returns-then-waits
 returns-then-waits c =

@@ -1,18 +1,10 @@
 -- Entry by entry, each at its place. Assumes nothing.
 use Rattle.book.specs.Sides.{no_entry}
-use Rattle.text.proofs.Stores.{left_all, left_more, left_none}
+use Rattle.text.proofs.Stores.{left_more, left_none}
 use Rattle.snapshot.proofs.Sides.{side_more, side_end}
 use lib.ListN.{drop_of_length-le}
 use native.Mathlib.Omega.{arith}
 use Rattle.snapshot.proofs.side.Goals as goal
-
-pub loop-i-init : goal.loop-i-init
-loop-i-init c = record { near = omega arith; left = left_all }
-
-pub entry-next-requires : goal.entry-next-requires
-entry-next-requires c =
-    let l = c.loop-i in
-    (omega arith, omega arith, c.requires.2 l.i c.loop-i-test.true)
 
 pub loop-i-preserved : goal.loop-i-preserved
 loop-i-preserved c =
