@@ -5,7 +5,7 @@
 #![tactic(auto)]
 
 ghost use Rattle.std.specs.Prelude.{◌≡◌, ◌+◌, ◌≤◌, ◌<◌, length};
-ghost use Rattle.book.specs.Results.{reason_number, breach_number};
+ghost use Rattle.book.specs.Results.{breach_number};
 ghost use Rattle.cells.specs.Cells.{side_size};
 ghost use Rattle.cells.specs.Updates.{updates_of};
 ghost use Rattle.store.specs.Layout.{store_size};
@@ -48,12 +48,12 @@ fn apply(store: &mut [u64], i: usize, u: Update) -> Result<(), Breach>
 }
 
 // Instrument i breaks for a reason.
-pub fn break_off(store: &mut [u64], h: Heading, i: usize, why: Breach) -> Heading
+pub fn break_off(store: &mut [u64], h: Heading, i: usize, reason: u64) -> Heading
     requires { (store_size ≤ length store.old) × (i < 16) }
-    ensures { st result store.new ≡ break_s i (reason_number why) (st h store.old) }
+    ensures { st result store.new ≡ break_s i reason (st h store.old) }
 {
     cells::zero_run(store, store::BIDS + i * store::BOOK, store::BOOK);
-    store[store::REASONS + i * store::RECORD] = u64::from(why);
+    store[store::REASONS + i * store::RECORD] = reason;
     h.wait(i)
 }
 
@@ -67,7 +67,7 @@ fn give_to(store: &mut [u64], h: Heading, i: usize, u: Update) -> Heading
     }
     match apply(store, i, u) {
         Ok(()) => h,
-        Err(why) => break_off(store, h, i, why),
+        Err(why) => break_off(store, h, i, u64::from(why)),
     }
 }
 

@@ -70,7 +70,7 @@ fn take(store: &mut [u64], h: Heading, i: usize, last: u64, book: Book) -> Fed
             }
         }
         Err(why) => Fed {
-            head: deliver::break_off(store, h, i, why),
+            head: deliver::break_off(store, h, i, u64::from(why)),
             answer: Answer::Broke,
         },
     }
