@@ -14,7 +14,7 @@ use Rattle.chain.specs.Fields.{Field}
 use Rattle.tags.specs.Tags.{named_tags, has, tidy, all_tidy, up_to, onward, parts, lookup}
 use Rattle.tags.specs.Slots.{between}
 use Rattle.values.specs.Values.{◌>>=◌, need}
-use Rattle.position.specs.Positions.{first_of, low_of, next_on, next_after, firsts, entry_in, at_next, entry_next}
+use Rattle.position.specs.Positions.{next_on, next_after, firsts, entry_in, at_next, entry_next}
 use Rattle.position.specs.declared.Next.{Next}
 use Rattle.position.specs.declared.Top.{Top}
 use Rattle.group.specs.Groups.{each, running}
@@ -42,7 +42,7 @@ parts_onward t (f ∷ fs) = go (eqb f.tag t) refl (parts_onward t fs)
 
 module _ (depth : ℕ) (t : Top) where
   abbrev ours : List ℕ
-  ours = between (low_of t.kind) 20
+  ours = between t.low 20
 
   -- the entries of a group, their positions too
   unfoldable pub ran : Next → List (List Field) → Option (List Update)
@@ -54,11 +54,11 @@ module _ (depth : ℕ) (t : Top) where
 
   -- between two entries, or before the first
   unfoldable pub outside : ℕ → Next → List Update → List Field → Option (List Update)
-  outside more next us fs = need (tidy named_tags [] (up_to (first_of t.kind) fs)) (closing more next us (parts (first_of t.kind) fs))
+  outside more next us fs = need (tidy named_tags [] (up_to t.first fs)) (closing more next us (parts t.first fs))
 
   -- in an entry that has begun with e
   unfoldable pub inside : ℕ → Next → List Update → List Field → List Field → Option (List Update)
-  inside more next us e fs = closing (more + 1) next us ((e ++ up_to (first_of t.kind) fs) ∷ parts (first_of t.kind) fs)
+  inside more next us e fs = closing (more + 1) next us ((e ++ up_to t.first fs) ∷ parts t.first fs)
 
   -- ---- the whole
   all_said : (o : Option (List Update)) → o >>= (λ ws. Some ws) ≡ o
@@ -74,8 +74,8 @@ module _ (depth : ℕ) (t : Top) where
   pub group_start : (n : ℕ) (fs : List Field) → grouped depth t n fs ≡ outside n firsts [] fs
   unfolding grouped outside closing ran
   group_start n fs =
-      let ps = parts (first_of t.kind) fs in
-      needs_and (eqb (length ps) n) (tidy named_tags [] (up_to (first_of t.kind) fs)) (all_tidy named_tags ours ps) (each (entry_in depth t) ps >>= λ us. need (ordered t firsts us) (Some us))
+      let ps = parts t.first fs in
+      needs_and (eqb (length ps) n) (tidy named_tags [] (up_to t.first fs)) (all_tidy named_tags ours ps) (each (entry_in depth t) ps >>= λ us. need (ordered t firsts us) (Some us))
       ∙ rw (all_said (each (entry_in depth t) ps >>= λ us. need (ordered t firsts us) (Some us)))
 
   -- ---- outside an entry
@@ -90,38 +90,38 @@ module _ (depth : ℕ) (t : Top) where
 
     module _ (f : Field) (fs : List Field) where
       -- a tag that is not named is passed over
-      pub passed_over_lem : (f.tag ≡ (first_of t.kind) → ⊥) → has f.tag named_tags ≡ false → outside more next us (f ∷ fs) ≡ outside more next us fs
+      pub passed_over_lem : (f.tag ≡ t.first → ⊥) → has f.tag named_tags ≡ false → outside more next us (f ∷ fs) ≡ outside more next us fs
       unfolding outside up_to parts tidy
-      passed_over_lem q h = rw (ne_eqb f.tag (first_of t.kind) q, h)
+      passed_over_lem q h = rw (ne_eqb f.tag t.first q, h)
 
       -- a named one is a breach
-      pub not_there : (f.tag ≡ (first_of t.kind) → ⊥) → has f.tag named_tags ≡ true → outside more next us (f ∷ fs) ≡ None
+      pub not_there : (f.tag ≡ t.first → ⊥) → has f.tag named_tags ≡ true → outside more next us (f ∷ fs) ≡ None
       unfolding outside up_to tidy has
-      not_there q h = rw (ne_eqb f.tag (first_of t.kind) q, h)
+      not_there q h = rw (ne_eqb f.tag t.first q, h)
 
       -- an entry more than 268 says
-      pub too_many : f.tag ≡ (first_of t.kind) → more ≡ 0 → outside more next us (f ∷ fs) ≡ None
+      pub too_many : f.tag ≡ t.first → more ≡ 0 → outside more next us (f ∷ fs) ≡ None
       unfolding outside closing up_to parts tidy
-      too_many q z = rw (eq-eqb f.tag (first_of t.kind) q, z, eqb-suc-zero)
+      too_many q z = rw (eq-eqb f.tag t.first q, z, eqb-suc-zero)
 
       -- an entry begins
-      pub begins : f.tag ≡ (first_of t.kind) → (more ≡ 0 → ⊥) → outside more next us (f ∷ fs) ≡ inside (more - 1) next us (f ∷ []) fs
+      pub begins : f.tag ≡ t.first → (more ≡ 0 → ⊥) → outside more next us (f ∷ fs) ≡ inside (more - 1) next us (f ∷ []) fs
       unfolding outside inside up_to parts tidy
       begins q z =
           let e : more - 1 + 1 ≡ more = omega arith in
-          rw (eq-eqb f.tag (first_of t.kind) q, e)
+          rw (eq-eqb f.tag t.first q, e)
 
   -- ---- inside one
   module _ (more : ℕ) (next : Next) (us : List Update) (e fs : List Field) where
     -- it breaches a rule
-    pub breaks : tidy named_tags ours (e ++ up_to (first_of t.kind) fs) ≡ false → inside more next us e fs ≡ None
+    pub breaks : tidy named_tags ours (e ++ up_to t.first fs) ≡ false → inside more next us e fs ≡ None
     unfolding inside closing all_tidy
     breaks h = rw (h, and-false)
 
     -- it is walked up to its end
-    pub walks : inside more next us e fs ≡ inside more next us (e ++ up_to (first_of t.kind) fs) (onward (first_of t.kind) fs)
+    pub walks : inside more next us e fs ≡ inside more next us (e ++ up_to t.first fs) (onward t.first fs)
     unfolding inside
-    walks = rw (up_onward (first_of t.kind) fs, append-nil, parts_onward (first_of t.kind) fs)
+    walks = rw (up_onward t.first fs, append-nil, parts_onward t.first fs)
 
   -- one entry more
   module _ (next : Next) (e : List Field) (ps : List (List Field)) where
@@ -138,9 +138,9 @@ module _ (depth : ℕ) (t : Top) where
         go (Some us) = refl
 
     ran_said : (u : Update) → entry_in depth t (lookup e) ≡ Some (Some u)
-        → ran next (e ∷ ps) ≡ need (eqb (first_of t.kind) 279 || eqb u.place (next_on next u.what)) (ran (next_after next u.what) ps >>= λ us. Some (u ∷ us))
+        → ran next (e ∷ ps) ≡ need (eqb t.first 279 || eqb u.place (next_on next u.what)) (ran (next_after next u.what) ps >>= λ us. Some (u ∷ us))
     unfolding ran each ordered running
-    ran_said u q = rw q (go (eqb (first_of t.kind) 279) (each (entry_in depth t) ps))
+    ran_said u q = rw q (go (eqb t.first 279) (each (entry_in depth t) ps))
       where
         nothing : (z : Bool) → ◌≡◌ {A = Option (List Update)} None (need z None)
         nothing true = refl
@@ -160,14 +160,14 @@ module _ (depth : ℕ) (t : Top) where
         go a (Some us) = pick a (eqb u.place (next_on next u.what)) (running (next_after next u.what) us) us
 
   -- an entry that breaches a rule, that is passed over, that says an update
-  module _ (more : ℕ) (next : Next) (us : List Update) (e fs : List Field) (w : tidy named_tags ours e ≡ true) (b : up_to (first_of t.kind) fs ≡ []) where
-    ended : inside more next us e fs ≡ need (eqb (length (parts (first_of t.kind) fs)) more && all_tidy named_tags ours (parts (first_of t.kind) fs)) (ran next (e ∷ parts (first_of t.kind) fs) >>= λ ws. Some (us ++ ws))
+  module _ (more : ℕ) (next : Next) (us : List Update) (e fs : List Field) (w : tidy named_tags ours e ≡ true) (b : up_to t.first fs ≡ []) where
+    ended : inside more next us e fs ≡ need (eqb (length (parts t.first fs)) more && all_tidy named_tags ours (parts t.first fs)) (ran next (e ∷ parts t.first fs) >>= λ ws. Some (us ++ ws))
     unfolding inside closing all_tidy
     ended =
-        let ps = parts (first_of t.kind) fs in
+        let ps = parts t.first fs in
         rw (b, append-nil e, w, add-one more, eqb-suc-suc (length ps) more)
 
-    again : (next' : Next) (us' : List Update) → outside more next' us' fs ≡ need (eqb (length (parts (first_of t.kind) fs)) more && all_tidy named_tags ours (parts (first_of t.kind) fs)) (ran next' (parts (first_of t.kind) fs) >>= λ ws. Some (us' ++ ws))
+    again : (next' : Next) (us' : List Update) → outside more next' us' fs ≡ need (eqb (length (parts t.first fs)) more && all_tidy named_tags ours (parts t.first fs)) (ran next' (parts t.first fs) >>= λ ws. Some (us' ++ ws))
     unfolding outside closing tidy
     again next' us' = rw b
 
@@ -181,7 +181,7 @@ module _ (depth : ℕ) (t : Top) where
       unfolding at_next
       to_bad None q h = ran_bad next e ps q
       to_bad (Some None) q h = let z : ◌≡◌ {A = ℕ} 0 1 = cc in absurd (omega arith)
-      to_bad (Some (Some u)) q h = ran_said next e ps u q ∙ go (eqb (first_of t.kind) 279 || eqb u.place (next_on next u.what)) h
+      to_bad (Some (Some u)) q h = ran_said next e ps u q ∙ go (eqb t.first 279 || eqb u.place (next_on next u.what)) h
         where
           go : (z : Bool) → need z (Some (Some u)) ≡ None → need z (ran (next_after next u.what) ps >>= λ ws. Some (u ∷ ws)) ≡ None
           go true k = let z : ◌≡◌ {A = ℕ} 0 1 = cc in absurd (omega arith)
@@ -191,7 +191,7 @@ module _ (depth : ℕ) (t : Top) where
       unfolding at_next
       to_passed None q h = let z : ◌≡◌ {A = ℕ} 0 1 = cc in absurd (omega arith)
       to_passed (Some None) q h = ran_passed next e ps q
-      to_passed (Some (Some u)) q h = absurd (go (eqb (first_of t.kind) 279 || eqb u.place (next_on next u.what)) h)
+      to_passed (Some (Some u)) q h = absurd (go (eqb t.first 279 || eqb u.place (next_on next u.what)) h)
         where
           go : (z : Bool) → need z (Some (Some u)) ≡ Some None → ⊥
           go true k = let z : ◌≡◌ {A = ℕ} 0 1 = cc in omega arith
@@ -202,7 +202,7 @@ module _ (depth : ℕ) (t : Top) where
       unfolding at_next
       to_said u None q h = let z : ◌≡◌ {A = ℕ} 0 1 = cc in absurd (omega arith)
       to_said u (Some None) q h = let z : ◌≡◌ {A = ℕ} 0 1 = cc in absurd (omega arith)
-      to_said u (Some (Some v)) q h = ran_said next e ps v q ∙ go (eqb (first_of t.kind) 279 || eqb v.place (next_on next v.what)) h
+      to_said u (Some (Some v)) q h = ran_said next e ps v q ∙ go (eqb t.first 279 || eqb v.place (next_on next v.what)) h
         where
           go : (z : Bool) → need z (Some (Some v)) ≡ Some (Some u)
               → need z (ran (next_after next v.what) ps >>= λ ws. Some (v ∷ ws)) ≡ ran (next_after next u.what) ps >>= λ ws. Some (u ∷ ws)
@@ -212,18 +212,18 @@ module _ (depth : ℕ) (t : Top) where
     pub entry_bad : entry_next depth t next (lookup e) ≡ None → inside more next us e fs ≡ None
     unfolding entry_next
     entry_bad h =
-        let ps = parts (first_of t.kind) fs in
+        let ps = parts t.first fs in
         ended ∙ rw (to_bad ps (entry_in depth t (lookup e)) refl h) (no_updates (eqb (length ps) more && all_tidy named_tags ours ps))
 
     pub entry_passed : entry_next depth t next (lookup e) ≡ Some None → inside more next us e fs ≡ outside more next us fs
     unfolding entry_next
-    entry_passed h = ended ∙ rw (to_passed (parts (first_of t.kind) fs) (entry_in depth t (lookup e)) refl h) (sym (again next us))
+    entry_passed h = ended ∙ rw (to_passed (parts t.first fs) (entry_in depth t (lookup e)) refl h) (sym (again next us))
 
     pub entry_said : (u : Update) → entry_next depth t next (lookup e) ≡ Some (Some u)
         → inside more next us e fs ≡ outside more (next_after next u.what) (us ++ (u ∷ [])) fs
     unfolding entry_next
     entry_said u h =
-        let ps = parts (first_of t.kind) fs in
+        let ps = parts t.first fs in
         let next' = next_after next u.what in
         ended ∙ rw (to_said ps u (entry_in depth t (lookup e)) refl h) (ap (need (eqb (length ps) more && all_tidy named_tags ours ps)) (go (ran next' ps)) ∙ sym (again next' (us ++ (u ∷ []))))
       where

@@ -2,7 +2,7 @@
 use Rattle.std.specs.Prelude.{Option, Some, None}
 use mathlib.Core.Path.{◌≡◌, refl, sym, ap, ◌∙◌}
 use mathlib.Core.List.{List, [], ◌∷◌, ◌++◌}
-use mathlib.Core.Bool.{Bool, true, false, cond, not, ◌||◌, false≢true}
+use mathlib.Core.Bool.{Bool, true, false, cond, not, ◌||◌}
 use Prim.Native.Nat.{ℕ, ◌+◌, ◌*◌, ◌-◌, ◌≤◌, ◌<◌}
 use native.Mathlib.Omega.{arith}
 use borrow.Author.Tests.{eqb-false, lt-ltb, le-ltb, not-true}
@@ -11,7 +11,6 @@ use lib.ListN.{length, get_or-replicate}
 use lib.Seq.{sets, length-sets}
 use Rattle.digits.proofs.Width.{both}
 use Rattle.book.specs.declared.Update.{Update}
-use Rattle.message.specs.declared.Kind.{Kind}
 use Rattle.cells.specs.Cells.{update_words, update_at}
 use Rattle.cells.specs.Runs.{updates_in}
 use Rattle.cells.proofs.Tables.{length_tab}
@@ -30,10 +29,9 @@ use Rattle.place.specs.Places.{Place, split_from, Tells}
 use Rattle.place.specs.Walks.{Walk}
 use Rattle.place.proofs.Walking.{Tidy, was_untidy, was_tidy}
 use Rattle.entries.proofs.Same.{x_same, w_same}
-use Rattle.position.specs.Positions.{first_of, low_of, next_after, firsts, entry_in, entry_next}
+use Rattle.position.specs.Positions.{next_after, firsts, entry_in, entry_next, Fair}
 use Rattle.position.specs.declared.Next.{Next}
 use Rattle.position.specs.declared.Top.{Top}
-use Rattle.position.proofs.Tops.{first_stands, torn_breaks}
 use Rattle.group.specs.Listed.{grouped}
 use Rattle.group.specs.Reads.{run_size, Spared, Lists}
 use Rattle.group.proofs.Grouping.{outside, inside, group_start, at_end_lem, too_few, passed_over_lem, not_there, too_many, begins, breaks, walks, up_onward, entry_bad, entry_passed, entry_said}
@@ -54,8 +52,8 @@ broken_named : has 8 named_tags ≡ true
 unfolding has
 broken_named = refl
 
-broken_apart : (k : Kind) → 8 ≡ first_of k → ⊥
-broken_apart k = eqb-false 8 (first_of k) (not-true (eqb 8 (first_of k)) (both (not (eqb 8 (first_of k))) (strays 0 21 (low_of k) 20 false) (torn_breaks k)).0)
+broken_apart : (t : Top) → Fair t → 8 ≡ t.first → ⊥
+broken_apart t h = eqb-false 8 t.first (not-true (eqb 8 t.first) (both (not (eqb 8 t.first)) (strays 0 21 t.low 20 false) h.1).0)
 
 -- marks say of an entry what its fields say
 pub entry_same : (depth : ℕ) (t : Top) (next : Next) (s : List ℕ) (m : Marks) (e : List Field) → Holds 21 s m e
@@ -118,22 +116,24 @@ module _ (s : List ℕ) (start count depth : ℕ) (t : Top) where
   whole = grouped depth t count (left s start)
 
   abbrev low : ℕ
-  low = low_of t.kind
+  low = t.low
 
   abbrev stop : ℕ
-  stop = first_of t.kind
+  stop = t.first
 
   abbrev ours : List ℕ
   ours = between low 20
 
   -- between two entries, or before the first
   pub record Listing (run : List ℕ) (n : ℕ) (next : Next) (more : ℕ) (at : ℕ) : Type 0 where
+    pub fair : Fair t
     pub kept : Kept run n next more
     pub same : whole ≡ outside depth t more next (updates_in run n) (left s at)
 
-  pub lists_start : (run : List ℕ) → run_size ≤ length run → count ≤ 64 → Listing run 0 firsts count start
-  lists_start run w l =
+  pub lists_start : (run : List ℕ) → run_size ≤ length run → Fair t → count ≤ 64 → Listing run 0 firsts count start
+  lists_start run w h l =
       record {
+        fair = h;
         kept = kept_none run count w l;
         same = group_start depth t count (left s start) ∙ ap (λ (us : List Update). outside depth t count firsts us (left s start)) (sym (no_updates run));
       }
@@ -153,7 +153,7 @@ module _ (s : List ℕ) (start count depth : ℕ) (t : Top) where
     pub torn : at < length s → field_at s at ≡ None → whole ≡ None
     torn l e =
         w'.same ∙ ap (outside depth t more next said) (left_no s at l e)
-        ∙ not_there depth t more next said broken [] (broken_apart t.kind) broken_named
+        ∙ not_there depth t more next said broken [] (broken_apart t w'.fair) broken_named
 
     module _ (tag from to : ℕ) (l : at < length s) (step : field_at s at ≡ Some (step tag from to)) where
       abbrev f : Field
@@ -167,7 +167,7 @@ module _ (s : List ℕ) (start count depth : ℕ) (t : Top) where
 
       pub lists_skip : (tag ≡ stop → ⊥) → (k : ℕ) → k ≡ slot_of tag → 21 ≤ k → Listing run n next more (to + 1)
       lists_skip q k e g =
-          record { kept = w'.kept; same = first ∙ passed_over_lem depth t more next said f (left s (to + 1)) q (named_not tag k e g) }
+          record { fair = w'.fair; kept = w'.kept; same = first ∙ passed_over_lem depth t more next said f (left s (to + 1)) q (named_not tag k e g) }
 
       pub no_more : tag ≡ stop → more ≡ 0 → whole ≡ None
       no_more q z = first ∙ too_many depth t more next said f (left s (to + 1)) q z
@@ -175,7 +175,7 @@ module _ (s : List ℕ) (start count depth : ℕ) (t : Top) where
       first_fits : tag ≡ stop → fits named_tags ours [] f ≡ true
       unfolding stands
       first_fits q =
-          let h : has tag ours ≡ true = rw q (first_stands t.kind) in
+          let h : has tag ours ≡ true = rw q w'.fair.0 in
           rw h (go (has tag named_tags))
         where
           go : (z : Bool) → not z || true ≡ true
@@ -187,25 +187,25 @@ module _ (s : List ℕ) (start count depth : ℕ) (t : Top) where
         entered : whole ≡ inside depth t (more - 1) next said (f ∷ []) (left s (to + 1))
         entered = first ∙ begins depth t more next said f (left s (to + 1)) q z
 
-        tells : {r : Option Place} → Walk s (to + 1) stop 21 low 20 (with_span m k from to) r → Tells 21 s r (split_from stop 21 low 20 (f ∷ []) (left s (to + 1)))
+        tells : {p : Place} → Walk s (to + 1) stop 21 low 20 (with_span m k from to) p → Tells 21 s p (split_from stop 21 low 20 (f ∷ []) (left s (to + 1)))
         tells w =
-            let p = found s at step in
+            let v = found s at step in
             w.tells (f ∷ [])
-            (rw i (held_more 21 s no_marks [] (omega arith) (none_held 21 s (omega arith)) tag k from to e b (λ i. get_or-replicate {A = Option Span} 22 k None None (omega arith)) p.some p.high))
+            (rw i (held_more 21 s no_marks [] (omega arith) (none_held 21 s (omega arith)) tag k from to e b (λ i. get_or-replicate {A = Option Span} 22 k None None (omega arith)) v.some v.high))
             (ap (λ (named : List ℕ). tidy named ours (f ∷ [])) all_named ∙ tidy_one named_tags ours f (first_fits q))
 
-        pub strayed : Walk s (to + 1) stop 21 low 20 (with_span m k from to) None → whole ≡ None
-        strayed w =
+        pub strayed : {p : Place} → Walk s (to + 1) stop 21 low 20 (with_span m k from to) p → p.ok ≡ false → whole ≡ None
+        strayed {p} w h =
             entered
             ∙ breaks depth t (more - 1) next said (f ∷ []) (left s (to + 1))
-            (ap (λ (named : List ℕ). tidy named ours ((f ∷ []) ++ up_to stop (left s (to + 1)))) (sym all_named) ∙ was_untidy s stop 21 low 20 (f ∷ []) (left s (to + 1)) (tells w))
+            (ap (λ (named : List ℕ). tidy named ours ((f ∷ []) ++ up_to stop (left s (to + 1)))) (sym all_named) ∙ was_untidy s stop 21 low 20 (f ∷ []) (left s (to + 1)) p h (tells w))
 
-        module _ {p : Place} (w : Walk s (to + 1) stop 21 low 20 (with_span m k from to) (Some p)) where
+        module _ {p : Place} (w : Walk s (to + 1) stop 21 low 20 (with_span m k from to) p) (good : p.ok ≡ true) where
           abbrev entry : List Field
           entry = (f ∷ []) ++ up_to stop (left s (to + 1))
 
           passed : Tidy s stop 21 low 20 (f ∷ []) (left s (to + 1)) p
-          passed = was_tidy s stop 21 low 20 (f ∷ []) (left s (to + 1)) p (tells w)
+          passed = was_tidy s stop 21 low 20 (f ∷ []) (left s (to + 1)) p good (tells w)
 
           walked_to : whole ≡ inside depth t (more - 1) next said entry (left s p.at)
           walked_to =
@@ -227,6 +227,7 @@ module _ (s : List ℕ) (start count depth : ℕ) (t : Top) where
           pub ended_passed : entry_next depth t next (marked s p.marks) ≡ Some None → Listing run n next (more - 1) p.at
           ended_passed h =
               record {
+                fair = w'.fair;
                 kept = kept_less run n next more w'.kept;
                 same = walked_to ∙ entry_passed depth t (more - 1) next said entry (left s p.at) tidied ends (sym read ∙ h);
               }
@@ -237,6 +238,7 @@ module _ (s : List ℕ) (start count depth : ℕ) (t : Top) where
               let room : n + (more - 1) < 64 = omega (arith, w'.kept.room) in
               let more_said = one_more run n u (omega (arith, room, w'.kept.wide)) in
               rw (a, c) (record {
+                fair = w'.fair;
                 kept = kept_more run n next (more - 1) (kept_less run n next more w'.kept) u room;
                 same =
                     walked_to

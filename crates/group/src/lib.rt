@@ -4,6 +4,7 @@
 
 ghost use Rattle.std.specs.Prelude.{◌≡◌, ◌≤◌, length};
 ghost use Rattle.chain.specs.Places.{left};
+ghost use Rattle.position.specs.Positions.{Fair};
 ghost use Rattle.group.specs.Listed.{grouped};
 ghost use Rattle.group.specs.Reads.{run_size, Lists};
 
@@ -21,12 +22,12 @@ pub fn listed(
     t: &Top,
     run: &mut [u64],
 ) -> Option<usize>
-    requires { (count ≤ 64) × (run_size ≤ length run.old) }
+    requires { Fair t.now × ((count ≤ 64) × (run_size ≤ length run.old)) }
     ensures { Lists (grouped depth t.now count (left s.now start)) result run.old run.new }
 {
     let end = s.len();
-    let first = t.first();
-    let low = t.low();
+    let first = t.first;
+    let low = t.low;
     let mut n: usize = 0;
     let mut next = Next { bid: 1, offer: 1 };
     let mut more = count;
@@ -48,7 +49,16 @@ pub fn listed(
         more -= 1;
         let mut marks = tags::no_marks();
         marks.spans[k] = Some(Span { from, to });
-        at = place::walk(s, at, &mut marks, first, tags::NAMED, low, position::ENTRY_END)?;
+        at = place::walk(
+            s,
+            at,
+            &mut marks,
+            first,
+            tags::NAMED,
+            low,
+            position::ENTRY_END,
+        )
+        .ok()?;
         let entry = Values {
             text: s,
             marks: &marks,

@@ -3,7 +3,7 @@ use Rattle.std.specs.Prelude.{Option, Some, None}
 use mathlib.Core.Path.{◌≡◌, refl, sym, ap, ◌∙◌}
 use mathlib.Core.List.{List, [], ◌∷◌}
 use mathlib.Core.Bool.{Bool, true, false, cond, ◌&&◌}
-use Prim.Native.Nat.{ℕ, ◌+◌, ◌≤◌, ◌<◌}
+use Prim.Native.Nat.{ℕ, ◌+◌, ◌≤◌}
 use native.Mathlib.Omega.{arith}
 use borrow.Author.Tests.{eqb-true, ne_eqb, leb-true, leb-false}
 use lib.Dec.{eqb, leb}
@@ -11,7 +11,7 @@ use lib.ListN.{length}
 use Rattle.digits.specs.Digits.{ranged_of, whole_of, digits_of}
 use Rattle.digits.proofs.Width.{both}
 use Rattle.book.specs.declared.Update.{Update}
-use Rattle.message.specs.Message.{Head, Message, numbered, snapshot, told}
+use Rattle.message.specs.Message.{Head, numbered, snapshot, told}
 use Rattle.message.specs.declared.Kind.{Kind}
 use Rattle.message.specs.declared.Kind.TheVariants.{Numbered, Snapshot}
 use Rattle.chain.specs.Fields.{Field, field}
@@ -23,7 +23,7 @@ use Rattle.tags.specs.declared.Marks.{Marks}
 use Rattle.values.specs.Values.{◌>>=◌, need, Values, seq_at, heard_at, instrument_of, last_at, loops_at}
 use Rattle.entries.specs.Entries.{entry_in_x, entry_in_w}
 use Rattle.entries.proofs.Same.{instrument_same}
-use Rattle.position.specs.Positions.{first_of, low_of, firsts, entry_in}
+use Rattle.position.specs.Positions.{firsts, entry_in, Fair}
 use Rattle.group.specs.Groups.{group_of, each, running}
 use Rattle.lead.specs.Messages.{other_of, changes_of, head_of, snapshot_of}
 use Rattle.group.specs.Listed.{ordered, grouped}
@@ -33,18 +33,18 @@ use Rattle.position.specs.declared.Top.{Top}
 -- ---- from 268 on
 counted_by : (depth : ℕ) (t : Top) (n : Option ℕ) (gs : List Field)
     → (n >>= λ k.
-    need (eqb (length (parts (first_of t.kind) gs)) k && (tidy named_tags [] (up_to (first_of t.kind) gs) && all_tidy named_tags (between (low_of t.kind) 20) (parts (first_of t.kind) gs)))
-    (Some (parts (first_of t.kind) gs)))
+    need (eqb (length (parts t.first gs)) k && (tidy named_tags [] (up_to t.first gs) && all_tidy named_tags (between t.low 20) (parts t.first gs)))
+    (Some (parts t.first gs)))
     >>= (λ es. each (entry_in depth t) es >>= λ us. need (ordered t firsts us) (Some us))
     ≡ n >>= λ k. grouped depth t k gs
 unfolding grouped
 counted_by depth t None gs = refl
 counted_by depth t (Some k) gs =
-    go (eqb (length (parts (first_of t.kind) gs)) k && (tidy named_tags [] (up_to (first_of t.kind) gs) && all_tidy named_tags (between (low_of t.kind) 20) (parts (first_of t.kind) gs)))
+    go (eqb (length (parts t.first gs)) k && (tidy named_tags [] (up_to t.first gs) && all_tidy named_tags (between t.low 20) (parts t.first gs)))
   where
     go : (z : Bool)
-        → need z (Some (parts (first_of t.kind) gs)) >>= (λ es. each (entry_in depth t) es >>= λ us. need (ordered t firsts us) (Some us))
-        ≡ need z (each (entry_in depth t) (parts (first_of t.kind) gs) >>= λ us. need (ordered t firsts us) (Some us))
+        → need z (Some (parts t.first gs)) >>= (λ es. each (entry_in depth t) es >>= λ us. need (ordered t firsts us) (Some us))
+        ≡ need z (each (entry_in depth t) (parts t.first gs) >>= λ us. need (ordered t firsts us) (Some us))
     go true = refl
     go false = refl
 
@@ -91,16 +91,16 @@ module _ (depth : ℕ) (t : Top) where
   unfoldable pub listing : Option (List (List Field)) → Option (List Update)
   listing o = o >>= λ es. each (entry_in depth t) es >>= λ us. need (ordered t firsts us) (Some us)
 
-  group_at : (gs : List Field) → headed gs ≡ true → listing (group_of (first_of t.kind) (between (low_of t.kind) 20) gs) ≡ counted depth t gs
+  group_at : (gs : List Field) → headed gs ≡ true → listing (group_of t.first (between t.low 20) gs) ≡ counted depth t gs
   unfolding listing headed group_of counted lookup past
   group_at [] h = rw no_count
   group_at (f ∷ gs) h = rw h (counted_by depth t (ranged_of 2 0 64 f.text) gs)
 
-  group_onward : (fs : List Field) → group_of (first_of t.kind) (between (low_of t.kind) 20) fs ≡ group_of (first_of t.kind) (between (low_of t.kind) 20) (onward 268 fs)
+  group_onward : (fs : List Field) → group_of t.first (between t.low 20) fs ≡ group_of t.first (between t.low 20) (onward 268 fs)
   unfolding group_of
   group_onward fs = rw (lookup_onward fs, past_onward fs)
 
-  pub group_from : (fs : List Field) → listing (group_of (first_of t.kind) (between (low_of t.kind) 20) fs) ≡ counted depth t (onward 268 fs)
+  pub group_from : (fs : List Field) → listing (group_of t.first (between t.low 20) fs) ≡ counted depth t (onward 268 fs)
   group_from fs = ap listing (group_onward fs) ∙ group_at (onward 268 fs) (onward_headed fs)
 
 -- the group by the field at a place
@@ -132,14 +132,14 @@ not_read false o q = refl
 
 -- ---- what stands before 268 in an X
 abbrev x_top : ℕ → ℕ → Top
-x_top n at = record { kind = Numbered; number = n; heard = at; id = 0; last = 0; loops = 0 }
+x_top n at = record { kind = Numbered; first = 279; low = 8; number = n; heard = at; id = 0; last = 0; loops = 0 }
 
 pub record TopX (v : Values) (t : Top) : Type 0 where
   pub n : ℕ
   pub at : ℕ
   pub seq : seq_at v ≡ Some n
   pub heard : heard_at v ≡ Some at
-  pub same : t ≡ record { kind = Numbered; number = n; heard = at; id = 0; last = 0; loops = 0 }
+  pub same : t ≡ record { kind = Numbered; first = 279; low = 8; number = n; heard = at; id = 0; last = 0; loops = 0 }
 
 pub is_top_x : (v : Values) {t : Top} → top_x v ≡ Some t → TopX v t
 unfolding top_x
@@ -199,12 +199,12 @@ module _ (depth : ℕ) (fs : List Field) where
 
 -- ---- what stands before 268 in a W
 abbrev w_top : Head → Top
-w_top h = record { kind = Snapshot; number = h.number; heard = h.heard; id = h.id; last = h.last; loops = h.loops }
+w_top h = record { kind = Snapshot; first = 269; low = 12; number = h.number; heard = h.heard; id = h.id; last = h.last; loops = h.loops }
 
 pub record TopW (v : Values) (t : Top) : Type 0 where
   pub head : Head
   pub read : head_of v ≡ Some head
-  pub same : t ≡ record { kind = Snapshot; number = head.number; heard = head.heard; id = head.id; last = head.last; loops = head.loops }
+  pub same : t ≡ record { kind = Snapshot; first = 269; low = 12; number = head.number; heard = head.heard; id = head.id; last = head.last; loops = head.loops }
 
 -- the two ways to read it
 heads : (v : Values) (a b c d e : Option ℕ) → seq_at v ≡ a → heard_at v ≡ b → instrument_of v ≡ c → last_at v ≡ d → loops_at v ≡ e
@@ -304,6 +304,12 @@ module _ (k : Kind) (depth : ℕ) (fs : List Field) where
           → group_said depth t (onward 268 fs) ≡ telling (body_by k depth fs)
       go Numbered h t e = x_is depth fs h t (is_top_x (lookup (up_to 268 fs)) e)
       go Snapshot h t e = w_is depth fs h t (is_top_w (lookup (up_to 268 fs)) e)
+
+-- its entries can be told apart
+pub top_fair : (k : Kind) (v : Values) {t : Top} → top_by k v ≡ Some t → Fair t
+unfolding has between
+top_fair Numbered v e = rw (is_top_x v e).same (refl, refl)
+top_fair Snapshot v e = rw (is_top_w v e).same (refl, refl)
 
 pub top_same : (k : Kind) (s : List ℕ) (m : Marks) (fs : List Field) → Holds 21 s m fs → top_by k (marked s m) ≡ top_by k (lookup fs)
 top_same Numbered s m fs h = top_x_same 21 s m fs (omega arith) h

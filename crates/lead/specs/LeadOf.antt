@@ -6,6 +6,7 @@ use Rattle.message.specs.declared.Kind.{Kind}
 use Rattle.message.specs.declared.Kind.TheVariants.{Numbered, Snapshot}
 use Rattle.chain.specs.Places.{part, field_at, left}
 use Rattle.tags.specs.Slots.{no_marks, marked}
+use Rattle.place.specs.Places.{passed}
 use Rattle.place.specs.Walks.{walk_on}
 use Rattle.values.specs.Values.{◌>>=◌}
 use Rattle.position.specs.declared.Top.{Top}
@@ -22,7 +23,7 @@ counted_lead s start t =
 -- X and W: the place before 268, what the type needs of it, then the group.
 unfoldable pub group_lead : Kind → List ℕ → Option Lead
 group_lead kind s =
-    walk_on 268 21 4 (head_end kind) 0 no_marks (left s 0) >>= λ p.
+    passed (walk_on 268 21 4 (head_end kind) 0 no_marks (left s 0)) >>= λ p.
     top_by kind (marked s p.marks) >>= λ t.
     counted_lead s p.at t
 
@@ -30,8 +31,8 @@ group_lead kind s =
 -- and none is counted.
 unfoldable pub other_lead : List ℕ → Option Lead
 other_lead s =
-    walk_on 268 6 4 6 0 no_marks (left s 0) >>= λ p.
-    walk_on 0 6 0 0 p.at no_marks (left s p.at) >>= λ q.
+    passed (walk_on 268 6 4 6 0 no_marks (left s 0)) >>= λ p.
+    passed (walk_on 0 6 0 0 p.at no_marks (left s p.at)) >>= λ q.
     top_x (marked s p.marks) >>= λ t.
     Some (record { top = t; at = length s; count = 0 })
 

@@ -9,6 +9,7 @@ use Rattle.digits.specs.Digits.{ranged_of}
 use Rattle.chain.specs.Fields.{Field}
 use Rattle.chain.specs.Places.{left}
 use Rattle.values.specs.Values.{◌>>=◌, Values, seq_at, heard_at, instrument_of, last_at, loops_at}
+use Rattle.position.specs.Positions.{Fair}
 use Rattle.group.specs.Listed.{grouped}
 use Rattle.position.specs.declared.Top.{Top}
 use Rattle.lead.specs.Messages.{changes_of, snapshot_of}
@@ -19,7 +20,7 @@ unfoldable pub top_x : Values → Option Top
 top_x v =
     seq_at v >>= λ n.
     heard_at v >>= λ heard.
-    Some (record { kind = Numbered; number = n; heard = heard; id = 0; last = 0; loops = 0 })
+    Some (record { kind = Numbered; first = 279; low = 8; number = n; heard = heard; id = 0; last = 0; loops = 0 })
 
 unfoldable pub top_w : Values → Option Top
 top_w v =
@@ -27,7 +28,7 @@ top_w v =
     instrument_of v >>= λ id.
     last_at v >>= λ last.
     loops_at v >>= λ loops.
-    Some (record { kind = Snapshot; number = t.number; heard = t.heard; id = id; last = last; loops = loops })
+    Some (record { kind = Snapshot; first = 269; low = 12; number = t.number; heard = t.heard; id = id; last = last; loops = loops })
 
 abbrev pub top_by : Kind → Values → Option Top
 top_by Numbered v = top_x v
@@ -69,6 +70,11 @@ abbrev pub led : ℕ → List ℕ → Option Lead → Option Told
 led depth s None = None
 led depth s (Some l) = grouped depth l.top l.count (left s l.at) >>= λ us. Some (told_by l.top us)
 
+-- The entries can be told apart.
+abbrev pub FairLead : Option Lead → Type 0
+FairLead None = Unit {0}
+FairLead (Some l) = Fair l.top
+
 -- 268 says at most 64.
 abbrev pub Few : Option Lead → Type 0
 Few None = Unit {0}
@@ -77,5 +83,6 @@ Few (Some l) = l.count ≤ 64
 -- What leads to the entries of fields is e, and what it leads to, on a channel of each depth kind, is f.
 pub record Leads (s : List ℕ) (l e : Option Lead) (f : ℕ → Option Told) : Type 0 where
   pub exact : l ≡ e
+  pub fair : FairLead l
   pub few : Few l
   pub says : (depth : ℕ) → led depth s l ≡ f depth

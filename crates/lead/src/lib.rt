@@ -5,6 +5,7 @@
 ghost use Rattle.std.specs.Prelude.{◌≡◌};
 ghost use Rattle.chain.specs.Places.{left};
 ghost use Rattle.tags.specs.ByTag.{by_tag};
+ghost use Rattle.position.specs.Positions.{Fair};
 ghost use Rattle.lead.specs.Messages.{other_of, typed_as};
 ghost use Rattle.lead.specs.Leads.{top_x, top_w, top_by, head_end, body_by, telling, group_said, Leads};
 ghost use Rattle.lead.specs.LeadOf.{counted_lead, group_lead, other_lead, lead_of};
@@ -44,6 +45,8 @@ fn top_x(v: Values) -> Option<Top>
     let heard = moment::moment(v.get(tags::SENT))?;
     Some(Top {
         kind: Kind::Numbered,
+        first: position::FIRST_X,
+        low: position::ENTRY_X,
         number,
         heard,
         id: 0,
@@ -63,6 +66,8 @@ fn top_w(v: Values) -> Option<Top>
     let loops = digits::ranged(v.get(tags::LOOPS), 10, 1, message::MOST_NUMBER)?;
     Some(Top {
         kind: Kind::Snapshot,
+        first: position::FIRST_W,
+        low: position::ENTRY_W,
         id,
         last,
         loops,
@@ -92,6 +97,7 @@ fn head_end(kind: Kind) -> usize
 
 // The group from 268 on.
 fn counted(s: &[u8], start: usize, top: Top) -> Option<Lead>
+    requires { Fair top }
     ensures { Leads s.now result (counted_lead s.now start top) (λ depth. group_said depth top (left s.now start)) }
 {
     let Step { tag: _, from, to } = chain::field(s, start)?;
@@ -108,7 +114,16 @@ fn with_group(s: &[u8], kind: Kind) -> Option<Lead>
     ensures { Leads s.now result (group_lead kind s.now) (λ depth. telling (body_by kind depth (left s.now 0))) }
 {
     let mut marks = tags::no_marks();
-    let at = place::walk(s, 0, &mut marks, COUNT_TAG, tags::NAMED, HEAD, head_end(kind))?;
+    let at = place::walk(
+        s,
+        0,
+        &mut marks,
+        COUNT_TAG,
+        tags::NAMED,
+        HEAD,
+        head_end(kind),
+    )
+    .ok()?;
     let head = Values {
         text: s,
         marks: &marks,
@@ -122,9 +137,9 @@ fn other(s: &[u8]) -> Option<Lead>
     ensures { Leads s.now result (other_lead s.now) (λ depth. telling (other_of (left s.now 0))) }
 {
     let mut marks = tags::no_marks();
-    let at = place::walk(s, 0, &mut marks, COUNT_TAG, HEAD_X_END, HEAD, HEAD_X_END)?;
+    let at = place::walk(s, 0, &mut marks, COUNT_TAG, HEAD_X_END, HEAD, HEAD_X_END).ok()?;
     let mut rest = tags::no_marks();
-    place::walk(s, at, &mut rest, NO_TAG, HEAD_X_END, 0, 0)?;
+    place::walk(s, at, &mut rest, NO_TAG, HEAD_X_END, 0, 0).ok()?;
     let head = Values {
         text: s,
         marks: &marks,

@@ -1,5 +1,6 @@
 -- A walk along a place: what is known at each field, and what each end of the walk tells. Assumes nothing.
-use Rattle.std.specs.Prelude.{Option, Some, None}
+use Rattle.std.specs.Prelude.{Option, Some, None, Result, Ok, Err}
+use Rattle.std.specs.Result.{result_ok}
 use Rattle.std.specs.Option.{is_some}
 use mathlib.Core.Path.{◌≡◌, refl, sym, ap, ◌∙◌}
 use mathlib.Core.List.{List, [], ◌∷◌, ◌++◌}
@@ -8,7 +9,7 @@ use Prim.Native.Nat.{ℕ, ◌+◌, ◌-◌, ◌≤◌, ◌<◌}
 use native.Mathlib.Omega.{arith}
 use borrow.Author.Tests.{lt-ltb, eqb-false, eq-eqb, ne_eqb, not-true}
 use lib.Dec.{ltb, leb, eqb}
-use lib.ListN.{length, get_or, set, length-append, length-take, length-drop}
+use lib.ListN.{length, get_or, length-append, length-take, length-drop}
 use Rattle.digits.proofs.Width.{both}
 use Rattle.chain.specs.Fields.{Field, field}
 use Rattle.chain.specs.Places.{step, part, field_at, broken, left}
@@ -19,7 +20,7 @@ use Rattle.tags.specs.declared.Marks.{Marks}
 use Rattle.tags.specs.declared.Span.{Span}
 use Rattle.tags.proofs.Marking.{none_held, with_span, held_more}
 use Rattle.tags.proofs.Tidiness.{fits, fits_test, tidy_nil, tidy_more}
-use Rattle.place.specs.Places.{Place, split_from, Tells}
+use Rattle.place.specs.Places.{Place, place_of, split_from, Tells}
 use Rattle.place.specs.Walks.{soh_at, mark_at, walk_on, Walk}
 use Rattle.place.proofs.Splits.{split_end, split_stop, split_stray, split_more}
 
@@ -72,20 +73,20 @@ module _ (s : List ℕ) (start stop named low high : ℕ) (first : Marks) where
       }
 
   module _ (m : Marks) (at : ℕ) (w : Walks m at) where
-    pub tells_end : length s ≤ at → Walk s start stop named low high first (Some (record { at = at; marks = m }))
+    pub tells_end : length s ≤ at → Walk s start stop named low high first (record { ok = true; at = at; marks = m })
     unfolding walk_on
     tells_end l =
         record {
           exact = sym (w.exact ∙ ap (walk_on stop named low high at m) (walked s at l));
           tells = λ e h t.
               let p = w.told e h t in
-              rw (p.same, walked s at l, split_end stop named low high p.passed p.tidy) (record { holds = p.holds; rest = walked s at l });
+              rw (p.same, walked s at l, split_end stop named low high p.passed p.tidy) (record { ok = refl; holds = p.holds; rest = walked s at l });
         }
 
     -- a field that strays
     strayed : (f : Field) (fs : List Field) → left s at ≡ f ∷ fs → (f.tag ≡ stop → ⊥)
         → strays (slot_of f.tag) named low high (is_some (get_or m.spans (slot_of f.tag) None)) ≡ true
-        → Walk s start stop named low high first None
+        → Walk s start stop named low high first (record { ok = false; at = at; marks = m })
     unfolding walk_on
     strayed f fs q other h =
         record {
@@ -93,10 +94,10 @@ module _ (s : List ℕ) (start stop named low high : ℕ) (first : Marks) where
           tells = λ e i t.
               let p = w.told e i t in
               let no : fits (below named) (between low high) p.passed f ≡ false = fits_test s m p.passed named low high p.holds w.few w.top f ∙ ap not h in
-              rw (p.same, q, split_stray stop named low high p.passed p.tidy f fs other no) tt;
+              rw (p.same, q, split_stray stop named low high p.passed p.tidy f fs other no) refl;
         }
 
-    pub tells_broken : at < length s → field_at s at ≡ None → Walk s start stop named low high first None
+    pub tells_broken : at < length s → field_at s at ≡ None → Walk s start stop named low high first (record { ok = false; at = at; marks = m })
     tells_broken l e =
         let b = both (not (eqb 8 stop)) (strays 0 named low high false) w.breaks in
         strayed broken [] (left_no s at l e) (eqb-false 8 stop (not-true (eqb 8 stop) b.0))
@@ -116,18 +117,18 @@ module _ (s : List ℕ) (start stop named low high : ℕ) (first : Marks) where
       starts : soh_at at f - length f.text ≡ from
       starts = let p = found s at step in rw ends (simp (length-take, length-drop) (omega (arith, p.some, p.high)))
 
-      pub tells_stop : tag ≡ stop → Walk s start stop named low high first (Some (record { at = at; marks = m }))
+      pub tells_stop : tag ≡ stop → Walk s start stop named low high first (record { ok = true; at = at; marks = m })
       unfolding walk_on
       tells_stop q =
           record {
             exact = sym (w.exact ∙ rw (on, eq-eqb tag stop q));
             tells = λ e h t.
                 let p = w.told e h t in
-                rw (p.same, on, split_stop stop named low high p.passed p.tidy f (left s (to + 1)) q) (record { holds = p.holds; rest = on });
+                rw (p.same, on, split_stop stop named low high p.passed p.tidy f (left s (to + 1)) q) (record { ok = refl; holds = p.holds; rest = on });
           }
 
       module _ (other : tag ≡ stop → ⊥) (k : ℕ) (slot : k ≡ slot_of tag) where
-        pub tells_stray : strays k named low high (is_some (get_or m.spans k None)) ≡ true → Walk s start stop named low high first None
+        pub tells_stray : strays k named low high (is_some (get_or m.spans k None)) ≡ true → Walk s start stop named low high first (record { ok = false; at = at; marks = m })
         tells_stray h = strayed f (left s (to + 1)) on other (rw slot at h)
 
         marked_so : mark_at at f m ≡ with_span m k from to
@@ -163,48 +164,63 @@ pub record Tidy (s : List ℕ) (stop named low high : ℕ) (e fs : List Field) (
   pub holds : Holds named s r.marks (e ++ up_to stop fs)
   pub rest : left s r.at ≡ onward stop fs
 
-module _ (s : List ℕ) (stop named low high : ℕ) (e fs : List Field) where
-  pub was_untidy : Tells named s None (split_from stop named low high e fs) → tidy (below named) (between low high) (e ++ up_to stop fs) ≡ false
-  was_untidy h = go (tidy (below named) (between low high) (e ++ up_to stop fs)) h
+module _ (s : List ℕ) (stop named low high : ℕ) (e fs : List Field) (r : Place) where
+  pub was_untidy : r.ok ≡ false → Tells named s r (split_from stop named low high e fs) → tidy (below named) (between low high) (e ++ up_to stop fs) ≡ false
+  was_untidy q h = go (tidy (below named) (between low high) (e ++ up_to stop fs)) h
     where
-      go : (z : Bool) → Tells named s None (cond z (Some (record { inside = e ++ up_to stop fs; rest = onward stop fs })) None) → z ≡ false
-      go true w = absurd w
+      go : (z : Bool) → Tells named s r (cond z (Some (record { inside = e ++ up_to stop fs; rest = onward stop fs })) None) → z ≡ false
+      go true w = absurd (true≢false (sym w.ok ∙ q))
       go false w = refl
 
-  pub was_tidy : (r : Place) → Tells named s (Some r) (split_from stop named low high e fs) → Tidy s stop named low high e fs r
-  was_tidy r h = go (tidy (below named) (between low high) (e ++ up_to stop fs)) refl h
+  pub was_tidy : r.ok ≡ true → Tells named s r (split_from stop named low high e fs) → Tidy s stop named low high e fs r
+  was_tidy q h = go (tidy (below named) (between low high) (e ++ up_to stop fs)) refl h
     where
       go : (z : Bool) → tidy (below named) (between low high) (e ++ up_to stop fs) ≡ z
-          → Tells named s (Some r) (cond z (Some (record { inside = e ++ up_to stop fs; rest = onward stop fs })) None) → Tidy s stop named low high e fs r
+          → Tells named s r (cond z (Some (record { inside = e ++ up_to stop fs; rest = onward stop fs })) None) → Tidy s stop named low high e fs r
       go true e w = record { tidy = e; holds = w.holds; rest = w.rest }
-      go false e w = absurd w
+      go false e w = absurd (true≢false (sym q ∙ w))
+
+-- ---- a walk's answer, where it is not asked where a breach stands
+pub walk_ended : {r : Result ℕ ℕ} {o : Option ℕ} {at : ℕ} → o ≡ result_ok r → o ≡ Some at → r ≡ Ok at
+walk_ended {r} {o} {at} p q = go r (sym p ∙ q)
+  where
+    go : (r : Result ℕ ℕ) → result_ok r ≡ Some at → r ≡ Ok at
+    go (Ok x) h = let z : x ≡ at = cc in rw z
+    go (Err x) h = let z : ◌≡◌ {A = ℕ} 0 1 = cc in absurd (omega arith)
+
+pub walk_breached : (r : Result ℕ ℕ) (m : Marks) {o : Option ℕ} → o ≡ result_ok r → o ≡ None → (place_of r m).ok ≡ false
+walk_breached r m p q = go r (sym p ∙ q)
+  where
+    go : (r : Result ℕ ℕ) → result_ok r ≡ None → (place_of r m).ok ≡ false
+    go (Ok x) h = let z : ◌≡◌ {A = ℕ} 0 1 = cc in absurd (omega arith)
+    go (Err x) h = refl
 
 -- ---- a walk never goes back
-forth_from : (stop named low high at : ℕ) (m : Marks) (fs : List Field) {p : Place} → walk_on stop named low high at m fs ≡ Some p → at ≤ p.at
+forth_on : (stop named low high at : ℕ) (m : Marks) (fs : List Field) → at ≤ (walk_on stop named low high at m fs).at
 unfolding walk_on
-forth_from stop named low high at m [] {p} e =
-    let q : ◌≡◌ {A = Place} (record { at = at; marks = m }) p = cc in omega (arith, ap (λ (r : Place). r.at) q)
-forth_from stop named low high at m (f ∷ fs) {p} e =
-    go (eqb f.tag stop) (strays (slot_of f.tag) named low high (is_some (get_or m.spans (slot_of f.tag) None))) e
-    (λ q. forth_from stop named low high (soh_at at f + 1) (mark_at at f m) fs q)
+forth_on stop named low high at m [] = omega arith
+forth_on stop named low high at m (f ∷ fs) =
+    go (eqb f.tag stop) (strays (slot_of f.tag) named low high (is_some (get_or m.spans (slot_of f.tag) None)))
+    (forth_on stop named low high (soh_at at f + 1) (mark_at at f m) fs)
   where
-    go : (a b : Bool)
-        → cond a (Some (record { at = at; marks = m })) (cond b None (walk_on stop named low high (soh_at at f + 1) (mark_at at f m) fs)) ≡ Some p
-        → (walk_on stop named low high (soh_at at f + 1) (mark_at at f m) fs ≡ Some p → soh_at at f + 1 ≤ p.at) → at ≤ p.at
-    go true b e i = let q : ◌≡◌ {A = Place} (record { at = at; marks = m }) p = cc in omega (arith, ap (λ (r : Place). r.at) q)
-    go false true e i = let z : ◌≡◌ {A = ℕ} 0 1 = cc in absurd (omega arith)
-    go false false e i = omega (arith, i e)
+    go : (a b : Bool) → soh_at at f + 1 ≤ (walk_on stop named low high (soh_at at f + 1) (mark_at at f m) fs).at
+        → at
+        ≤ (cond a (record { ok = true; at = at; marks = m })
+        (cond b (record { ok = false; at = at; marks = m }) (walk_on stop named low high (soh_at at f + 1) (mark_at at f m) fs))).at
+    go true b i = omega arith
+    go false true i = omega arith
+    go false false i = omega (arith, i)
 
-pub walked_forth : {s : List ℕ} {start stop named low high : ℕ} {m : Marks} {p : Place} → Walk s start stop named low high m (Some p) → start ≤ p.at
-walked_forth w = forth_from _ _ _ _ _ _ _ (sym w.exact)
+pub walked_forth : {s : List ℕ} {start stop named low high : ℕ} {m : Marks} {p : Place} → Walk s start stop named low high m p → start ≤ p.at
+walked_forth w = rw w.exact (forth_on _ _ _ _ _ _ _)
 
 -- ---- a walk that starts with no marks
-module _ {s : List ℕ} {start stop named low high : ℕ} (n : named ≤ 21) where
-  tells_all : {r : Option Place} → Walk s start stop named low high no_marks r → Tells named s r (split_from stop named low high [] (left s start))
-  tells_all w = w.tells [] (none_held named s n) (tidy_nil (below named) (between low high))
+module _ {s : List ℕ} {start stop named low high : ℕ} (n : named ≤ 21) {p : Place} (w : Walk s start stop named low high no_marks p) where
+  tells_all : Tells named s p (split_from stop named low high [] (left s start))
+  tells_all = w.tells [] (none_held named s n) (tidy_nil (below named) (between low high))
 
-  pub walk_untidy : Walk s start stop named low high no_marks None → tidy (below named) (between low high) (up_to stop (left s start)) ≡ false
-  walk_untidy w = was_untidy s stop named low high [] (left s start) (tells_all w)
+  pub walk_untidy : p.ok ≡ false → tidy (below named) (between low high) (up_to stop (left s start)) ≡ false
+  walk_untidy q = was_untidy s stop named low high [] (left s start) p q tells_all
 
-  pub walk_tidy : {p : Place} → Walk s start stop named low high no_marks (Some p) → Tidy s stop named low high [] (left s start) p
-  walk_tidy {p} w = was_tidy s stop named low high [] (left s start) p (tells_all w)
+  pub walk_tidy : p.ok ≡ true → Tidy s stop named low high [] (left s start) p
+  walk_tidy q = was_tidy s stop named low high [] (left s start) p q tells_all

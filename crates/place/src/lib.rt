@@ -11,8 +11,8 @@ use chain::Step;
 use tags::{Marks, Span};
 
 // Walks a place from `start` up to the first field with the tag `stop`, or to the end, and marks each field that it
-// passes. It answers where the place ends, unless a rule is breached: of the first `named` slots only those from low up
-// to high may stand in it, each once, and bytes that are no field may not.
+// passes. Of the first `named` slots only those from low up to high may stand in it, each once, and bytes that are no field
+// may not. It answers where the place ends, or where the field stands that breaches these rules.
 pub fn walk(
     s: &[u8],
     start: usize,
@@ -21,23 +21,25 @@ pub fn walk(
     named: usize,
     low: usize,
     high: usize,
-) -> Option<usize>
+) -> Result<usize, usize>
     requires { (named ≤ 21) × ((high ≤ 21) × (breaks stop named low high ≡ true)) }
     ensures { Walk s.now start stop named low high marks.old (place_of result marks.new) }
 {
     let end = s.len();
     let mut at = start;
     while at < end {
-        let Step { tag, from, to } = chain::field(s, at)?;
+        let Some(Step { tag, from, to }) = chain::field(s, at) else {
+            return Err(at);
+        };
         if tag == stop {
-            return Some(at);
+            return Ok(at);
         }
         let k = tags::slot(tag);
         if tags::stray(k, named, low, high, marks.spans[k].is_some()) {
-            return None;
+            return Err(at);
         }
         marks.spans[k] = Some(Span { from, to });
         at = to + 1;
     }
-    Some(at)
+    Ok(at)
 }

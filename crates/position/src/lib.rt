@@ -4,7 +4,7 @@
 
 ghost use Rattle.std.specs.Prelude.{◌≡◌, ◌<◌};
 ghost use Rattle.tags.specs.ByTag.{by_tag};
-ghost use Rattle.position.specs.Positions.{first_of, low_of, next_on, next_after, entry_next};
+ghost use Rattle.position.specs.Positions.{next_on, next_after, entry_next};
 
 use entries::Said;
 use message::Kind;
@@ -22,37 +22,18 @@ pub const ENTRY_W: usize = tags::SORT;
 
 pub const ENTRY_END: usize = tags::COUNT;
 
-// What stands before a group: what the message is, and the reading's numbers.
+// How a group is read and what stands before it: what the message is, the first tag of an entry and the first slot that may
+// stand in one, and the reading's numbers.
 #[derive(Clone, Copy)]
 pub struct Top {
     pub kind: Kind,
+    pub first: u64,
+    pub low: usize,
     pub number: u64,
     pub heard: u64,
     pub id: u64,
     pub last: u64,
     pub loops: u64,
-}
-
-impl Top {
-    // The first tag of an entry.
-    pub fn first(&self) -> u64
-        ensures { result ≡ first_of self.now.kind }
-    {
-        match self.kind {
-            Kind::Numbered => FIRST_X,
-            Kind::Snapshot => FIRST_W,
-        }
-    }
-
-    // The first slot that may stand in an entry.
-    pub fn low(&self) -> usize
-        ensures { result ≡ low_of self.now.kind }
-    {
-        match self.kind {
-            Kind::Numbered => ENTRY_X,
-            Kind::Snapshot => ENTRY_W,
-        }
-    }
 }
 
 // The next position of each side in a W.
@@ -98,11 +79,11 @@ impl Next {
 pub fn entry(v: Values, depth: u64, t: &Top, next: Next) -> Said
     ensures { result ≡ entry_next depth t.now next (by_tag v.entry) }
 {
-    match t.kind {
-        Kind::Numbered => entries::in_x(v, depth),
-        Kind::Snapshot => match entries::in_w(v, depth, t.id)? {
-            Some(u) if u.place != next.on(u.what) => None,
-            said => Some(said),
-        },
+    if t.first == FIRST_X {
+        return entries::in_x(v, depth);
+    }
+    match entries::in_w(v, depth, t.id)? {
+        Some(u) if u.place != next.on(u.what) => None,
+        said => Some(said),
     }
 }

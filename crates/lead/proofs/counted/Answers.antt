@@ -26,4 +26,4 @@ overflow_add-result c =
     let f = found _ _ (sym c.field.ensures ∙ c.in_ok-from.was) in omega (arith, f.high, c.well_formed.0.0)
 
 pub returns : goal.returns
-returns c = good_leads _ _ _ (sym c.field.ensures ∙ c.in_ok-from.was) refl (sym c.ranged.ensures ∙ c.in_ok-count.was)
+returns c = good_leads _ _ _ (sym c.field.ensures ∙ c.in_ok-from.was) c.requires refl (sym c.ranged.ensures ∙ c.in_ok-count.was)
