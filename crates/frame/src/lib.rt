@@ -82,7 +82,7 @@ pub fn field_of(s: &[u8], at: usize, tag: u64) -> Option<Step>
 pub fn begins(s: &[u8]) -> bool
     ensures { result ≡ equal (take 10 s.now) preamble }
 {
-    s.starts_with(b"8=FIX.4.4\x01")
+    s.first_chunk() == Some(b"8=FIX.4.4\x01")
 }
 
 // 8, then 9, then 35.
