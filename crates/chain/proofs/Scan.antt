@@ -1,7 +1,7 @@
 -- Bytes passed one at a time until one is found. Assumes nothing.
 use Rattle.std.specs.Prelude.{Option, Some, None, position}
 use Rattle.std.specs.List.{position_or_len}
-use mathlib.Core.Path.{◌≡◌, refl, sym, ap, ◌∙◌}
+use mathlib.Core.Path.{◌≡◌, refl, sym, ◌∙◌}
 use mathlib.Core.Bool.{Bool, true, false, cond, not}
 use mathlib.Core.List.{List, [], ◌∷◌}
 use Prim.Native.Nat.{ℕ, ◌+◌, ◌-◌, ◌≤◌, ◌<◌}
@@ -27,35 +27,7 @@ module _ (s : List ℕ) (i x : ℕ) where
   pub unfound : length s ≤ i → first_of x s i ≡ i
   unfound h = rw (drop_of_length-le s h, add-zero)
 
--- ---- finding x among four bytes
-module _ (s : List ℕ) (i x : ℕ) (l : 4 ≤ length s - i) where
-  pub found_first : get_or s i 0 ≡ x → first_of x s i ≡ i
-  found_first h = found s i x (omega arith) h
-
-  module _ (a : get_or s i 0 ≡ x → ⊥) where
-    past_first : first_of x s (i + 1) ≡ first_of x s i
-    past_first = passed s i x (omega arith) a
-
-    pub found_second : get_or s (i + 1) 0 ≡ x → first_of x s i ≡ i + 1
-    found_second h = sym past_first ∙ found s (i + 1) x (omega arith) h
-
-    module _ (b : get_or s (i + 1) 0 ≡ x → ⊥) where
-      past_second : first_of x s (i + 2) ≡ first_of x s i
-      past_second = let q : i + 2 ≡ i + 1 + 1 = omega arith in ap (first_of x s) q ∙ passed s (i + 1) x (omega arith) b ∙ past_first
-
-      pub found_third : get_or s (i + 2) 0 ≡ x → first_of x s i ≡ i + 2
-      found_third h = sym past_second ∙ found s (i + 2) x (omega arith) h
-
-      module _ (c : get_or s (i + 2) 0 ≡ x → ⊥) where
-        past_third : first_of x s (i + 3) ≡ first_of x s i
-        past_third = let q : i + 3 ≡ i + 2 + 1 = omega arith in ap (first_of x s) q ∙ passed s (i + 2) x (omega arith) c ∙ past_second
-
-        pub found_fourth : get_or s (i + 3) 0 ≡ x → first_of x s i ≡ i + 3
-        found_fourth h = sym past_third ∙ found s (i + 3) x (omega arith) h
-
-        pub past_four : (get_or s (i + 3) 0 ≡ x → ⊥) → first_of x s (i + 4) ≡ first_of x s i
-        past_four d = let q : i + 4 ≡ i + 3 + 1 = omega arith in ap (first_of x s) q ∙ passed s (i + 3) x (omega arith) d ∙ past_third
-
+-- the part of a list from a place to its end
 tail : (s : List ℕ) (q : ℕ) → take (length s - q) (drop q s) ≡ drop q s
 tail s q = take_all (length s - q) (drop q s) (omega (arith, length-drop q s))
 

@@ -1,15 +1,10 @@
 -- A turn writes the lowest byte that is left. Assumes nothing.
 use Prim.Native.Nat.{◌+◌, ◌-◌, ◌<◌}
 use Rattle.orderid.proofs.Packs.{bytes_none, bytes_any, bytes_more, bytes_less}
-use Rattle.text.proofs.Stores.{left_all, left_more, left_none}
-use mathlib.Core.Path.{◌≡◌, refl, ◌∙◌}
+use Rattle.text.proofs.Stores.{left_more, left_none}
+use mathlib.Core.Path.{◌≡◌, ◌∙◌}
 use native.Mathlib.Omega.{arith}
 use Rattle.orderid.proofs.put_packed.Goals as goal
-
-pub loop-v-init : goal.loop-v-init
-loop-v-init c =
-    let q : c.args.at + 8 - c.args.at ≡ 8 = omega arith in
-    (omega arith, omega arith, refl, rw q c.ranges.p.fits, rw q left_all)
 
 pub loop-v-preserved : goal.loop-v-preserved
 loop-v-preserved c =
