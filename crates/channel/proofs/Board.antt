@@ -1,10 +1,13 @@
 -- What a message leaves in the store is the board after it, and the store is canonical again.
+use Rattle.std.specs.Prelude.{Result, Err}
 use mathlib.Core.Path.{◌≡◌, refl, sym, ap, ◌∙◌}
 use mathlib.Core.List.{List}
 use Prim.Native.Nat.{ℕ}
 use Rattle.book.specs.declared.Update.{Update}
 use Rattle.book.specs.Rules.{Lists}
-use Rattle.message.specs.Message.{Message, Head, numbered, snapshot, refused}
+use Rattle.message.specs.Message.{Message, Head, numbered, snapshot, refused, said, count_in, answer_of}
+use Rattle.message.specs.declared.Reading.{Reading}
+use Rattle.message.specs.declared.Refusal.{Refusal}
 use Rattle.board.specs.Snapshot.{snap}
 use Rattle.board.specs.Feed.{feed}
 use Rattle.store.specs.Meaning.{State, board_in}
@@ -14,8 +17,8 @@ use Rattle.count.specs.Counts.{number_s}
 use Rattle.count.proofs.Board.{number_board, number_canon}
 use Rattle.taking.specs.Replays.{snap_s}
 use Rattle.taking.proofs.Board.{snap_board, snap_canon}
-use Rattle.channel.specs.Feeds.{aimed_at, feed_s, Feeds}
-use Rattle.channel.proofs.Aiming.{shown_aimed}
+use Rattle.channel.specs.Feeds.{aimed_at, Aims, feed_s, Feeds}
+use Rattle.channel.proofs.Aiming.{aims_none, shown_aimed}
 
 pub feed_board : (m : Message) (s : State) → Formed s → meant (feed_s m s) ≡ feed m (board_in s)
 unfolding feed_s feed
@@ -46,3 +49,12 @@ pub snapshot_feeds : {m : Message} {h : Head} {us vs : List Update} {s : State} 
     → vs ≡ aimed_at s us → fed a t ≡ snap_s h.id h.last vs s → Feeds m s a t
 unfolding feed_s
 snapshot_feeds {h = h} {s = s} w k e g = feeds w k (g ∙ ap (λ (l : List Update). snap_s h.id h.last l s) e)
+
+-- an answer that no message is read leaves all as it was
+module _ {r : Result Reading Refusal} {why : Refusal} (q : r ≡ Err why) where
+  pub unread_feeds : (us : List Update) {s : State} {a : ℕ} {t : State} → Canon s → a ≡ answer_of why → t ≡ s → Feeds (said r us) s a t
+  unfolding feed_s
+  unread_feeds us k p e = rw q (feeds refl k (rw (p, e)))
+
+  pub unread_aims : (s : State) (xs : List ℕ) → Aims s (count_in r) xs xs
+  unread_aims s xs = rw q (aims_none s xs)

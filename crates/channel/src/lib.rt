@@ -4,7 +4,7 @@
 
 ghost use Rattle.std.specs.Prelude.{◌≡◌, ◌*◌, ◌≤◌, length};
 ghost use Rattle.cells.specs.Runs.{update_size, updates_in};
-ghost use Rattle.message.specs.Message.{says};
+ghost use Rattle.message.specs.Message.{says, said, count_in};
 ghost use Rattle.message.specs.Answers.{number_of};
 ghost use Rattle.store.specs.Layout.{store_size};
 ghost use Rattle.store.specs.Meaning.{st};
@@ -13,7 +13,7 @@ ghost use Rattle.channel.specs.Feeds.{index_in, Aims, Feeds};
 
 use cells::run::Updates;
 use heading::Heading;
-use message::{Kind, Reading};
+use message::{Kind, Reading, Refusal};
 use store::Fed;
 
 // The index of the instrument that an entry names, or 0 where it is for all.
@@ -39,9 +39,8 @@ fn aim(store: &[u64], h: Heading, run: &mut [u64], count: usize)
     }
 }
 
-// The message that a reading and the entries in a run say, on the board that the heading and the store are. The entries are
-// aimed where they stand.
-pub fn feed_read(store: &mut [u64], h: Heading, r: Reading, run: &mut [u64]) -> Fed
+// A message that was read, on the same. Its entries are aimed where they stand.
+fn feed_reading(store: &mut [u64], h: Heading, r: Reading, run: &mut [u64]) -> Fed
     requires { Canon (st h store.old) × (r.count * update_size ≤ length run.old) }
     ensures feeds { Feeds (says r (updates_in run.old r.count)) (st h store.old) (number_of result.answer) (st result.head store.new) }
     ensures aims { Aims (st h store.old) r.count run.old run.new }
@@ -54,5 +53,18 @@ pub fn feed_read(store: &mut [u64], h: Heading, r: Reading, run: &mut [u64]) -> 
     match r.kind {
         Kind::Numbered => count::number(store, h, r.number, r.heard, us),
         Kind::Snapshot => kept::snapshot(store, h, r, us),
+    }
+}
+
+// The message that the reader's answer and the entries in a run say, on the board that the heading and the store are. The
+// entries are aimed where they stand.
+pub fn feed_read(store: &mut [u64], h: Heading, r: Result<Reading, Refusal>, run: &mut [u64]) -> Fed
+    requires { Canon (st h store.old) × (count_in r * update_size ≤ length run.old) }
+    ensures feeds { Feeds (said r (updates_in run.old (count_in r))) (st h store.old) (number_of result.answer) (st result.head store.new) }
+    ensures aims { Aims (st h store.old) (count_in r) run.old run.new }
+{
+    match r {
+        Ok(r) => feed_reading(store, h, r, run),
+        Err(why) => kept::unread(h, why),
     }
 }

@@ -1,17 +1,6 @@
--- `feed_read` meets its contract: the entries are aimed, then each kind has its message.
-use mathlib.Core.Path.{ap}
-use Rattle.cells.specs.Runs.{updates_in}
-use Rattle.message.specs.declared.Kind.{Kind}
-use Rattle.message.specs.Message.{said_by}
-use Rattle.channel.proofs.Board.{number_feeds, snapshot_feeds}
+-- `feed_read` meets its contract: a message that was read is fed, and one that was not leaves all as it was.
+use Rattle.channel.proofs.Board.{unread_feeds, unread_aims}
 use Rattle.channel.proofs.feed_read.Goals as goal
 
-pub returns-in-Numbered-clause-feeds : goal.returns-in-Numbered-clause-feeds
-returns-in-Numbered-clause-feeds c =
-    let says = ap (λ (v : Kind). said_by v c.args.r (updates_in c.args.run.now c.args.r.count)) c.in-Numbered.is in
-    number_feeds says c.requires.0 c.aim.ensures.entries c.number.ensures
-
-pub returns-in-Snapshot-clause-feeds : goal.returns-in-Snapshot-clause-feeds
-returns-in-Snapshot-clause-feeds c =
-    let says = ap (λ (v : Kind). said_by v c.args.r (updates_in c.args.run.now c.args.r.count)) c.in-Snapshot.is in
-    snapshot_feeds says c.requires.0 c.aim.ensures.entries c.snapshot.ensures
+pub returns-in-Err : goal.returns-in-Err
+returns-in-Err c = record { feeds = unread_feeds c.in-Err.is _ c.requires.0 (rw c.unread.ensures.1) (rw c.unread.ensures.0); aims = unread_aims c.in-Err.is _ _ }
