@@ -1,13 +1,15 @@
 -- A message on the channel in the store, verdict by verdict.
-use Rattle.std.specs.Prelude.{Result, Err}
-use mathlib.Core.Path.{◌≡◌, refl, sym, ap, ◌∙◌}
+use Rattle.std.specs.Prelude.{Result, Ok, Err}
+use mathlib.Core.Path.{◌≡◌, sym, ap, ◌∙◌}
 use mathlib.Core.Bool.{true, false}
 use mathlib.Core.List.{List}
 use Prim.Native.Nat.{ℕ}
 use Rattle.book.specs.declared.Update.{Update}
+use Rattle.message.specs.declared.Kind.{Kind}
+use Rattle.message.specs.declared.Kind.TheVariants.{Numbered, Snapshot}
 use Rattle.message.specs.declared.Reading.{Reading}
 use Rattle.message.specs.declared.Refusal.{Refusal}
-use Rattle.message.specs.Message.{Message, Head, head_in, numbered, snapshot, refused, said, count_in, answer_of}
+use Rattle.message.specs.Message.{Message, Head, head_in, numbered, snapshot, refused, said_by, said}
 use Rattle.board.specs.Board.{Out, look}
 use Rattle.board.specs.Feed.{feed}
 use Rattle.board.specs.Ranges.{message_fine}
@@ -21,9 +23,7 @@ use Rattle.loops.proofs.Rows.{joined_same}
 use Rattle.store.specs.Meaning.{State, board_of, board_in}
 use Rattle.store.specs.Canon.{Canon}
 use Rattle.store.proofs.Decode.{insts_length}
-use Rattle.channel.specs.Feeds.{Aims, feed_s, Feeds}
-use Rattle.channel.proofs.Aiming.{aims_none}
-use Rattle.channel.proofs.Board.{feeds}
+use Rattle.channel.specs.Feeds.{Feeds}
 use Rattle.channel.proofs.Laws.{around_none, around_then, feeds_around}
 use Rattle.rounds.specs.Rounds.{Ends, Rounds, Gives}
 
@@ -40,6 +40,17 @@ module _ (r : Reading) (l : Loop) (s : State) (m : Loop) (i : ℕ) (found : i �
   comes_round n z t w o = record { means = rw (sym joined_is, w, z, o.means); canon = o.canon; around = o.around }
 
 -- ---- a message
+
+-- what the reader's answer says, by its kind
+module _ {r : Result Reading Refusal} where
+  pub says_number : {w : Reading} → r ≡ Ok w → (us : List Update) → w.kind ≡ Numbered → said r us ≡ numbered w.number w.heard us
+  says_number {w} q us e = rw q (ap (λ (k : Kind). said_by k w us) e)
+
+  pub says_snapshot : {w : Reading} → r ≡ Ok w → (us : List Update) → w.kind ≡ Snapshot → said r us ≡ snapshot (head_in w) us
+  says_snapshot {w} q us e = rw q (ap (λ (k : Kind). said_by k w us) e)
+
+  pub says_refused : {why : Refusal} → r ≡ Err why → (us : List Update) → said r us ≡ refused why
+  says_refused q us = rw q
 
 module _ {m : Message} {s : State} {a : ℕ} {t : State} (k : Canon s) (f : Feeds m s a t) where
   answer_is : a ≡ (feed m (board_in s)).answer
@@ -69,12 +80,3 @@ module _ {m : Message} {s : State} {a : ℕ} {t : State} (k : Canon s) (f : Feed
   snapshot_gives h us l row u e o =
       let j : joined_by h (board_in t) l ≡ joined_by h (board_in s) l = rw board_is (joined_same h l (feed m (board_in s)).board (board_in s) (same_feed m (board_in s))) in
       record { means = rw (o.means, j, answer_is, board_is, e); canon = o.canon; around = around_then (feeds_around k.formed f) o.around }
-
--- an answer that no message is read leaves all as it was
-module _ {r : Result Reading Refusal} {why : Refusal} (q : r ≡ Err why) where
-  pub unread_gives : (us : List Update) {l : Loop} {s : State} {a : ℕ} {t : State} → Canon s → a ≡ answer_of why → t ≡ s → Gives (said r us) l s a l t
-  unfolding feed_s
-  unread_gives us {l} k p e = rw q (refused_gives k (feeds refl k (rw (p, e))) why l refl)
-
-  pub unread_aims : (s : State) (xs : List ℕ) → Aims s (count_in r) xs xs
-  unread_aims s xs = rw q (aims_none s xs)

@@ -4,7 +4,7 @@
 ghost use Rattle.std.specs.Prelude.{◌≡◌, Ok, true, ◌*◌, ◌≤◌, length};
 ghost use Rattle.cells.specs.Runs.{update_size, updates_in};
 ghost use Rattle.message.specs.Answers.{number_of};
-ghost use Rattle.message.specs.Message.{most_number, head_in, told, says, said, count_in};
+ghost use Rattle.message.specs.Message.{most_number, head_in, told, said, count_in};
 ghost use Rattle.board.specs.Ranges.{message_fine};
 ghost use Rattle.board.specs.Sound.{Sound};
 ghost use Rattle.loops.specs.Laws.{empty_for};
@@ -61,7 +61,7 @@ fn end(store: &mut [u64], h: Heading, l: Loop, run: &mut [u64]) -> Heading
             continue;
         }
         let r = empty_for(store[store::IDS + i * store::RECORD], l.low);
-        let f = channel::feed_read(store, g, r, run);
+        let f = channel::feed_read(store, g, Ok(r), run);
         g = f.head;
     }
     g
@@ -83,30 +83,6 @@ fn looped(store: &mut [u64], h: Heading, l: Loop, r: Reading, run: &mut [u64]) -
     }
 }
 
-// A message that was read, on the same.
-fn give_read(store: &mut [u64], h: Heading, l: Loop, r: Reading, run: &mut [u64]) -> Given
-    requires { Canon (st h store.old) × Sound (board_in (st h store.old)) × (l.come ≤ most_number) × (r.count * update_size ≤ length run.old) × (message_fine h.depth (says r (updates_in run.old r.count)) ≡ true) }
-    ensures gives { Gives (says r (updates_in run.old r.count)) l (st h store.old) (number_of result.answer) result.row (st result.head store.new) }
-    ensures aims { Aims (st h store.old) r.count run.old run.new }
-{
-    let f = channel::feed_read(store, h, r, run);
-    match r.kind {
-        Kind::Numbered => Given {
-            head: f.head,
-            row: l,
-            answer: f.answer,
-        },
-        Kind::Snapshot => {
-            let o = looped(store, f.head, l, r, run);
-            Given {
-                head: o.head,
-                row: o.row,
-                answer: f.answer,
-            }
-        }
-    }
-}
-
 // The message that the reader's answer and the entries in a run say, on the channel that the heading, the record and the
 // store are.
 pub fn give(
@@ -120,15 +96,24 @@ pub fn give(
     ensures gives { Gives (said r (updates_in run.old (count_in r))) l (st h store.old) (number_of result.answer) result.row (st result.head store.new) }
     ensures aims { Aims (st h store.old) (count_in r) run.old run.new }
 {
+    let f = channel::feed_read(store, h, r, run);
+    let fed = Given {
+        head: f.head,
+        row: l,
+        answer: f.answer,
+    };
     match r {
-        Ok(r) => give_read(store, h, l, r, run),
-        Err(why) => {
-            let f = kept::unread(h, why);
-            Given {
-                head: f.head,
-                row: l,
-                answer: f.answer,
+        Ok(r) => match r.kind {
+            Kind::Numbered => fed,
+            Kind::Snapshot => {
+                let o = looped(store, f.head, l, r, run);
+                Given {
+                    head: o.head,
+                    row: o.row,
+                    ..fed
+                }
             }
-        }
+        },
+        Err(_) => fed,
     }
 }
