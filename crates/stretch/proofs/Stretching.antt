@@ -1,5 +1,5 @@
 -- At most one stretch is taken at a place, and it is the one that tag 9 names. Assumes nothing.
-use Rattle.std.specs.Prelude.{Option, Some, None, Err}
+use Rattle.std.specs.Prelude.{Some, None, Err}
 use mathlib.Core.Path.{◌≡◌, refl, sym, ap, ◌∙◌}
 use mathlib.Core.List.{List, [], ◌∷◌, ◌++◌, append_assoc}
 use mathlib.Core.Bool.{Bool, true, false, cond, ◌&&◌, false≢true}
@@ -16,7 +16,6 @@ use Rattle.text.specs.Text.{width_to, width_of, decimal, fixed}
 use Rattle.text.proofs.Written.{length_decimal, width_le, width_pos}
 use Rattle.chain.specs.Fields.{Field, field}
 use Rattle.chain.specs.Bytes.{field_bytes, bytes_of, fair, all_fair}
-use Rattle.chain.specs.Places.{part}
 use Rattle.chain.proofs.Inverse.{Stands, stands, length_field, fair_is}
 use Rattle.frame.specs.Frames.{frame_of}
 use Rattle.frame.specs.ByPlace.{preamble}

@@ -1,7 +1,6 @@
 -- `digits::both` meets its contract. Assumes nothing.
 use Rattle.std.specs.Prelude.{Some}
-use Rattle.std.proofs.Common.{ℕ, ◌+◌, ◌*◌, ◌^◌, sym, ap, ◌∙◌, arith}
-use lib.Bits.{bit_and, bit_or}
+use Rattle.std.proofs.Common.{ℕ, ◌+◌, ◌*◌, sym, ap, ◌∙◌, arith}
 use Rattle.digits.proofs.Words.{number}
 use Rattle.digits.proofs.Parts.{writes_both, writes_both_none}
 use Rattle.digits.proofs.both.Goals as goal
