@@ -33,6 +33,7 @@ pub fn bits(p: i64) -> u64
 }
 
 // A moment's date and time of day.
+// Kept: the room and a place in it stay two parameters, as in crate text.
 pub fn put_moment(out: &mut [u64], at: usize, m: u64)
     requires { (at + 2 ≤ length out.old) × (m < moments) }
     ensures { out.new ≡ sets out.old at (moment_words m) }

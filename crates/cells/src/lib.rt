@@ -1,5 +1,7 @@
 // Entries, sides and queued entries in the lent run of numbers: read from a place, and written at one (document 01: "All
-// books live in one lent run of 64-bit numbers"). Every function takes the whole run and an index into it.
+// books live in one lent run of 64-bit numbers").
+// Kept: the whole run and an index into it stay two parameters: `entry_at` and `sets store at ..` say each number by its place in the whole,
+// and a part that is lent would have to be tied to it at each call.
 #![tactic(auto)]
 
 ghost use Rattle.std.specs.Prelude.{◌≡◌, ◌+◌, ◌≤◌, length, take};

@@ -1,5 +1,7 @@
 // A message is a chain of fields (document 01, "Frame"): each is a tag, '=', a value and SOH. Nothing is copied: an answer holds
 // places in the lent bytes.
+// Kept: the bytes and a place in them stay two parameters: in a part that starts there, `&s[at..]`, each place of an answer would be counted
+// from another start.
 #![tactic(auto)]
 
 ghost use Rattle.std.specs.Prelude.{◌≡◌, ◌≤◌, length};

@@ -1,7 +1,8 @@
 // Live instruments get their entries, in place in the store (document 01, "A side of a book" and "Numbers, queue and
 // marks"). A breach breaks the instrument: both sides emptied, mark Waiting, the reason.
-// Kept: store and heading are two parameters and `Formed` a clause, here and in the crates above: as the invariant of one struct it would ask
-// of `break_off` and of `queue::settle` and `let_go` more than their `requires`, which may not grow: a store long enough, and i < 16.
+// Kept: store and heading stay two parameters, here and in crates store, queue, count, taking, kept, channel, rounds, quote and ask: a struct that
+// holds the lent store needs in each method a second clause, as crate text shows, and with `Formed` for its invariant it would ask of `break_off`,
+// `settle` and `let_go` more than they ask.
 #![tactic(auto)]
 
 ghost use Rattle.std.specs.Prelude.{◌≡◌, ◌+◌, ◌≤◌, ◌<◌, length};
@@ -48,6 +49,7 @@ fn apply(store: &mut [u64], i: usize, u: Update) -> Result<(), Breach>
 }
 
 // Instrument i breaks for a reason.
+// Kept: the reason is a number and no Breach, since `break_s` says it of every number and docs/CONTRACTS.md names the function.
 pub fn break_off(store: &mut [u64], h: Heading, i: usize, reason: u64) -> Heading
     requires { (store_size ≤ length store.old) × (i < 16) }
     ensures { st result store.new ≡ break_s i reason (st h store.old) }

@@ -190,7 +190,7 @@ fn many(text: &[u8]) -> Option<u64>
 }
 
 // 1 to width digits as their number, or NONE, where these may be more than few.
-// Kept: a plain number and no Option, which goes through memory and costs a feed a tenth more time (docs/PROVING.md).
+// Kept: a plain number and no Option: an enum of that shape went through memory, and a feed took a tenth more time (docs/PROVING.md).
 fn read(text: &[u8], width: usize) -> u64
     requires { 3 < width }
     ensures { digits_of width text.now ≡ (if nat_eq result 18446744073709551615 then None else Some result) }
@@ -254,7 +254,7 @@ fn leads(text: &[u8]) -> bool
 }
 
 // A whole number: 1 to width digits without a leading zero, except 0 itself.
-// Kept: not by `digits`, since a function with two callers stays one (docs/PROVING.md).
+// Not by `digits`, since a function with two callers stays one (docs/PROVING.md).
 pub fn whole(text: &[u8], width: usize) -> Option<u64>
     ensures { result ≡ whole_of width text.now }
 {

@@ -11,6 +11,7 @@ const RUN: usize = 576;
 
 // Reads the bytes of a message and gives the message to the channel in the store. The answer is document 01's number and 256
 // times how many instruments wait afterwards.
+// Kept: it answers a number, since `selkavorn_feed` hands it to C as it is, and `Fed` says it.
 pub fn feed(store: &mut [u64], message: &[u8]) -> u64
     ensures { Fed message.now store.old result store.new }
 {

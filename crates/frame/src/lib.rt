@@ -10,6 +10,7 @@ ghost use Rattle.frame.specs.ByPlace.{tagged, preamble, head_of, trailer_of, par
 use chain::Step;
 
 // The type, and the place of the first field after 35; the trailer starts 7 bytes before the end.
+// Kept: the type is its byte and no enum, since `lead::typed` answers for every byte, as `lead_of` says.
 #[derive(Clone, Copy)]
 pub struct Framed {
     pub kind: u8,

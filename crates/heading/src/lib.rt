@@ -8,7 +8,8 @@ ghost use Rattle.heading.specs.Headings.{counted_to, let_go, gap_at, marks_now, 
 
 // depth: 0 order depth, 1 price depth. followed: how many instruments. number: H. base: B. heard: the moment of message H.
 // marks: one bit an instrument, 1 for Waiting. queued: how many entries the queue holds.
-// Kept: depth is a number and no enum, since `store::load_heading` says with `heading_at` that number of any store, also one above 1.
+// Kept: depth is a number and no enum, here and in each function that takes one, since `store::load_heading` says with `heading_at` that number
+// of any store, also one above 1, and the readers and writers answer for every number, as `values_of` and `entry_fields` say.
 #[derive(Clone, Copy)]
 pub struct Heading {
     pub depth: u64,
@@ -21,8 +22,8 @@ pub struct Heading {
 }
 
 // Whether mark i of m is set.
-// Kept: `i < 16` is a clause and no type of index, since each caller has i from a range or a comparison and would make the type to call:
-// `h.waits(i)` would be `h.waits(Place { index: i })`.
+// Kept: `i < 16` is a clause, here and in the crates above, since docs/CONTRACTS.md names these functions as ones that take a number below 16,
+// and a type of index would ask more of their callers.
 #[tactic(auto, unfolding(crate::specs::Marks::marked))]
 pub fn marked(m: u16, i: usize) -> bool
     requires { i < 16 }

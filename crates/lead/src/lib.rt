@@ -16,6 +16,7 @@ use position::Top;
 use tags::Values;
 
 // The tag that ends what stands before a group; no field has the tag 0.
+// Kept: 0 and no Option, since `place::walk` takes any number as the tag that a place ends at, and `walk_on` says it so.
 const COUNT_TAG: u64 = 268;
 
 const NO_TAG: u64 = 0;

@@ -13,6 +13,7 @@ use tags::{Marks, Span};
 // Walks a place from `start` up to the first field with the tag `stop`, or to the end, and marks each field that it
 // passes. Of the first `named` slots only those from low up to high may stand in it, each once, and bytes that are no field
 // may not. It answers where the place ends, or where the field stands that breaches these rules.
+// Kept: the Err says where, though no caller asks, since that was promised before (`Walk`).
 pub fn walk(
     s: &[u8],
     start: usize,

@@ -1,5 +1,5 @@
 -- What the walk of a recording promises of the other calls. Assumes nothing.
-use Rattle.std.specs.Prelude.{Option, Some, None}
+use Rattle.std.specs.Prelude.{Option, Some, None, Result, Ok, Err}
 use mathlib.Core.Path.{◌≡◌, refl, sym, ap, ◌∙◌}
 use mathlib.Core.Bool.{Bool, true, false, cond, not, false≢true}
 use mathlib.Core.List.{List, [], ◌∷◌}
@@ -12,6 +12,7 @@ use lib.ListN.{take, drop}
 use Rattle.digits.proofs.Width.{both}
 use Rattle.frame.specs.Frames.{frame_of, body_of}
 use Rattle.frame.specs.declared.Framed.{Framed}
+use Rattle.frame.specs.declared.FrameError.{FrameError}
 use Rattle.message.specs.Message.{Message, numbered, snapshot, refused}
 use Rattle.board.specs.Board.{Board, waiting_in}
 use Rattle.board.specs.Feed.{feed}
@@ -45,16 +46,16 @@ read_small (snapshot s us) b h =
     small a (leb-true a 10 (both (leb 4 a) (leb a 10) (answers_in_table (snapshot s us) b)).1)
 read_small (refused why) b h = absurd (false≢true h)
 
-framed_alike : (depth : ℕ) (s : List ℕ) (f : Framed) (b : Board) → passes f ≡ not (refused_by (feed (framed_as depth s f) b).answer)
+framed_alike : (depth : ℕ) (s : List ℕ) (f : Result Framed FrameError) (b : Board) → passes f ≡ not (refused_by (feed (framed_as depth s f) b).answer)
 unfolding feed or_bad_fields
-framed_alike depth s Framed.BadFrame b = refl
-framed_alike depth s Framed.BadSum b = refl
-framed_alike depth s Framed.BadType b = refl
-framed_alike depth s (Framed.Is kind from) b = body (typed_as depth kind (body_of s)) refl
+framed_alike depth s (Err FrameError.BadFrame) b = refl
+framed_alike depth s (Err FrameError.BadSum) b = refl
+framed_alike depth s (Err FrameError.BadType) b = refl
+framed_alike depth s (Ok f) b = body (typed_as depth f.kind (body_of s)) refl
   where
-    body : (o : Option Message) → typed_as depth kind (body_of s) ≡ o → true ≡ not (refused_by (feed (or_bad_fields o) b).answer)
+    body : (o : Option Message) → typed_as depth f.kind (body_of s) ≡ o → true ≡ not (refused_by (feed (or_bad_fields o) b).answer)
     body None e = refl
-    body (Some m) e = rw (read_small m b (typed_well (body_of s) depth kind e).read)
+    body (Some m) e = rw (read_small m b (typed_well (body_of s) depth f.kind e).read)
 
 passing : (bytes xs : List ℕ) → sound xs ≡ true → passes (frame_of bytes) ≡ not (refused_by (feed_answer bytes xs))
 unfolding feed_answer fed message_in
@@ -84,11 +85,11 @@ each_message rec (message p n ∷ ps) h = (λ xs. never (take n (drop p rec)) xs
 each_message rec (passed p n ∷ ps) h = each_message rec ps h
 
 -- ---- what we write
-read_passes : (depth : ℕ) (s : List ℕ) (f : Framed) → is_read (framed_as depth s f) ≡ true → passes f ≡ true
-read_passes depth s Framed.BadFrame h = absurd (false≢true h)
-read_passes depth s Framed.BadSum h = absurd (false≢true h)
-read_passes depth s Framed.BadType h = refl
-read_passes depth s (Framed.Is kind from) h = refl
+read_passes : (depth : ℕ) (s : List ℕ) (f : Result Framed FrameError) → is_read (framed_as depth s f) ≡ true → passes f ≡ true
+read_passes depth s (Err FrameError.BadFrame) h = absurd (false≢true h)
+read_passes depth s (Err FrameError.BadSum) h = absurd (false≢true h)
+read_passes depth s (Err FrameError.BadType) h = refl
+read_passes depth s (Ok f) h = refl
 
 written_stands : (xs : List ℕ) (id : ℕ) (sender target : List ℕ) (k m : ℕ) (time out : List ℕ) (n : ℕ) (rest : List ℕ)
     → send_answer id sender target k m time out xs ≡ 256 * n

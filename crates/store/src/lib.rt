@@ -116,9 +116,8 @@ pub struct Fed {
 }
 
 // The heading that stands in the store.
-// Kept: the store's length is a clause and no type, here and above: C lends a slice, whose length the exported functions test, and each call
-// would make the type to call: `store::load_heading(store)` would be `Store { numbers: store }.load_heading()`. An array of 7,168 would not
-// do: a lent store may be longer, and the contracts say each of its numbers.
+// Kept: the store's length is a clause and no type, here and above: C lends a slice, whose length the exported functions test; a struct round it
+// needs a second clause in each function, as crate text shows, and an array of 7,168 would not do, since a lent store may be longer.
 pub fn load_heading(store: &[u64]) -> Heading
     requires { (store_size ≤ length store.now) × (get_or store.now at_marks 0 < 65536) }
     ensures { result ≡ heading_at store.now }

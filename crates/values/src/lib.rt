@@ -11,6 +11,7 @@ use orderid::OrderId;
 use tags::Values;
 
 // A sort of 269 that is passed over; the others are book's bid, offer and J.
+// Kept: a number and no enum, since it is the number that an update has for what it is of, and `sort_of` says it.
 const OTHER: u64 = 3;
 
 // 269: bid, offer, J, or another sort.
