@@ -100,5 +100,5 @@ module _ (depth : ℕ) (s : List ℕ) where
       let w = heard (body_as kind from) h.answers in
       let well = typed_well fs depth kind w.is in
       let e : message_in depth s ≡ w.message =
-          sym (body_is ((outline s kind from o).frame (ap is_some (unbroken (inner from) 0 well.unbroken)))) ∙ ap or_bad_fields w.is ∙ some_said w.message in
+      sym (body_is ((outline s kind from o).frame (ap is_some (unbroken (inner from) 0 well.unbroken)))) ∙ ap or_bad_fields w.is ∙ some_said w.message in
       rw e (record { reading = w.tells.reading; entries = w.tells.entries; run = h.run })

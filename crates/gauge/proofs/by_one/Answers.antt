@@ -8,9 +8,9 @@ use Rattle.gauge.proofs.by_one.Goals.{then-n-eq0-via-then-n-eq0, then-n-eq0-via-
 pub returns-then-n-eq0 : goal.returns-then-n-eq0
 returns-then-n-eq0 c =
     elim c.then-n-eq0.branch [
-    | then-n-eq0-via-then-n-eq0 w ↦ sym (none _ _ w.if-n-eq0.true)
-    | then-n-eq0-via-else-n-eq0+then-width-n w ↦ sym (long _ _ (omega arith) w.if-width-n.true)
-    | then-n-eq0-via-else-n-eq0+else-width-n+then-width-gt-WIDTH w ↦ sym (too_wide_lem _ _ w.if-width-gt-WIDTH.true)
+      | then-n-eq0-via-then-n-eq0 w ↦ sym (none _ _ w.if-n-eq0.true)
+      | then-n-eq0-via-else-n-eq0+then-width-n w ↦ sym (long _ _ (omega arith) w.if-width-n.true)
+      | then-n-eq0-via-else-n-eq0+else-width-n+then-width-gt-WIDTH w ↦ sym (too_wide_lem _ _ w.if-width-gt-WIDTH.true)
     ]
 
 pub loop-b-init : goal.loop-b-init
