@@ -2,6 +2,7 @@
 use Rattle.std.specs.Prelude.{Option, Some, None, Result, Ok, Err}
 use Rattle.std.specs.Result.{result_ok}
 use Rattle.std.specs.Option.{is_some}
+use Rattle.std.specs.Int.{from_bool}
 use mathlib.Core.Path.{◌≡◌, refl, sym, ap, ◌∙◌}
 use mathlib.Core.List.{List, [], ◌∷◌, ◌++◌}
 use mathlib.Core.Bool.{Bool, true, false, cond, not, ◌&&◌, ◌||◌, true≢false, false≢true}
@@ -23,6 +24,11 @@ use Rattle.tags.proofs.Tidiness.{fits, fits_test, tidy_nil, tidy_more}
 use Rattle.place.specs.Places.{Place, place_of, split_from, Tells}
 use Rattle.place.specs.Walks.{soh_at, mark_at, walk_on, Walk}
 use Rattle.place.proofs.Splits.{split_end, split_stop, split_stray, split_more}
+
+-- whether a tag was seen, handed on as a number
+pub seen_as : (b : Bool) → not (eqb (from_bool b) 0) ≡ b
+seen_as true = refl
+seen_as false = refl
 
 -- a field that does not stray was not seen
 pub unseen : (k named low high : ℕ) (o : Option Span) → strays k named low high (is_some o) ≡ false → k < named → o ≡ None

@@ -36,7 +36,7 @@ pub fn walk(
             return Ok(at);
         }
         let k = tags::slot(tag);
-        if tags::stray(k, named, low, high, marks.spans[k].is_some()) {
+        if tags::stray(k, named, low, high, usize::from(marks.spans[k].is_some())) {
             return Err(at);
         }
         marks.spans[k] = Some(Span { from, to });

@@ -3,7 +3,7 @@
 // by the slot of its tag, as a part of the lent bytes, and nothing is read until it is needed.
 #![tactic(auto)]
 
-ghost use Rattle.std.specs.Prelude.{None, ◌≡◌, ◌≤◌, ◌<◌, get_or};
+ghost use Rattle.std.specs.Prelude.{None, ◌≡◌, ◌≤◌, ◌<◌, not, eqb, get_or};
 ghost use Rattle.tags.specs.Slots.{slot_of, no_marks, text_at, strays};
 
 // The slots, in an order in which what may stand in a place is one run of them. Slots 0 to 3 are those of 8, 9, 35 and
@@ -118,9 +118,9 @@ pub fn no_marks() -> Marks
 }
 
 // Whether a field of slot k breaches the rules of a place: its tag is one of the first `named`, and may not stand there
-// or was seen there.
-pub fn stray(k: usize, named: usize, low: usize, high: usize, seen: bool) -> bool
-    ensures { result ≡ strays k named low high seen }
+// or was seen there, which any number but 0 says.
+pub fn stray(k: usize, named: usize, low: usize, high: usize, seen: usize) -> bool
+    ensures { result ≡ strays k named low high (not (eqb seen 0)) }
 {
-    k < named && (k < low || high <= k || seen)
+    k < named && (k < low || high <= k || seen != 0)
 }
