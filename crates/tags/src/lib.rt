@@ -60,12 +60,12 @@ pub struct Marks {
 
 // The values of a place: the lent bytes, and where they stand there.
 #[derive(Clone, Copy)]
-pub struct Values<'a> {
+pub struct Values<'a, 'm> {
     pub text: &'a [u8],
-    pub marks: &'a Marks,
+    pub marks: &'m Marks,
 }
 
-impl<'a> Values<'a> {
+impl<'a, 'm> Values<'a, 'm> {
     // The value of slot k, or no bytes where there is none.
     #[tactic(auto, unfolding(crate::specs::Slots::text_at))]
     pub fn get(self, k: usize) -> &'a [u8]
