@@ -37,7 +37,7 @@ fn body(s: &[u8], kind: u8, depth: u64, run: &mut [u64]) -> Option<Reading>
     let top = lead.top;
     let count = group::listed(s, lead.at, lead.count, depth, &top, run)?;
     Some(Reading {
-        kind: top.kind,
+        kind: lead.kind,
         number: top.number,
         heard: top.heard,
         id: top.id,

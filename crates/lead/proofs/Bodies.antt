@@ -132,14 +132,14 @@ not_read false o q = refl
 
 -- ---- what stands before 268 in an X
 abbrev x_top : ℕ → ℕ → Top
-x_top n at = record { kind = Numbered; first = 279; low = 8; number = n; heard = at; id = 0; last = 0; loops = 0 }
+x_top n at = record { first = 279; low = 8; number = n; heard = at; id = 0; last = 0; loops = 0 }
 
 pub record TopX (v : Values) (t : Top) : Type 0 where
   pub n : ℕ
   pub at : ℕ
   pub seq : seq_at v ≡ Some n
   pub heard : heard_at v ≡ Some at
-  pub same : t ≡ record { kind = Numbered; first = 279; low = 8; number = n; heard = at; id = 0; last = 0; loops = 0 }
+  pub same : t ≡ record { first = 279; low = 8; number = n; heard = at; id = 0; last = 0; loops = 0 }
 
 pub is_top_x : (v : Values) {t : Top} → top_x v ≡ Some t → TopX v t
 unfolding top_x
@@ -181,30 +181,30 @@ module _ (depth : ℕ) (fs : List Field) where
       (x_none v (λ n at. group_of 279 entry_x fs >>= λ es. each (entry_in_x depth) es >>= λ us. Some (numbered n at us)) h)
 
   x_answer : (n at : ℕ) (o : Option (List (List Field)))
-      → telling (o >>= λ es. each (entry_in_x depth) es >>= λ us. Some (numbered n at us)) ≡ listing depth (x_top n at) o >>= λ us. Some (told_by (x_top n at) us)
+      → telling (o >>= λ es. each (entry_in_x depth) es >>= λ us. Some (numbered n at us)) ≡ listing depth (x_top n at) o >>= λ us. Some (told_by Numbered (x_top n at) us)
   unfolding listing entry_in ordered told
   x_answer n at None = refl
   x_answer n at (Some es) = go (each (entry_in_x depth) es)
     where
-      go : (r : Option (List Update)) → telling (r >>= λ us. Some (numbered n at us)) ≡ (r >>= λ us. Some us) >>= λ us. Some (told_by (x_top n at) us)
+      go : (r : Option (List Update)) → telling (r >>= λ us. Some (numbered n at us)) ≡ (r >>= λ us. Some us) >>= λ us. Some (told_by Numbered (x_top n at) us)
       go None = refl
       go (Some us) = refl
 
-  x_is : tidy (below 21) (between 4 6) (up_to 268 fs) ≡ true → (t : Top) → TopX v t → group_said depth t (onward 268 fs) ≡ telling (changes_of depth fs)
+  x_is : tidy (below 21) (between 4 6) (up_to 268 fs) ≡ true → (t : Top) → TopX v t → group_said Numbered depth t (onward 268 fs) ≡ telling (changes_of depth fs)
   unfolding changes_of below between
   x_is h t p =
       let q = p.same in
       rw (h, p.seq, p.heard, q)
-      (sym (x_answer p.n p.at (group_of 279 entry_x fs) ∙ ap (λ (o : Option (List Update)). o >>= λ us. Some (told_by (x_top p.n p.at) us)) (group_from depth (x_top p.n p.at) fs)))
+      (sym (x_answer p.n p.at (group_of 279 entry_x fs) ∙ ap (λ (o : Option (List Update)). o >>= λ us. Some (told_by Numbered (x_top p.n p.at) us)) (group_from depth (x_top p.n p.at) fs)))
 
 -- ---- what stands before 268 in a W
 abbrev w_top : Head → Top
-w_top h = record { kind = Snapshot; first = 269; low = 12; number = h.number; heard = h.heard; id = h.id; last = h.last; loops = h.loops }
+w_top h = record { first = 269; low = 12; number = h.number; heard = h.heard; id = h.id; last = h.last; loops = h.loops }
 
 pub record TopW (v : Values) (t : Top) : Type 0 where
   pub head : Head
   pub read : head_of v ≡ Some head
-  pub same : t ≡ record { kind = Snapshot; first = 269; low = 12; number = head.number; heard = head.heard; id = head.id; last = head.last; loops = head.loops }
+  pub same : t ≡ record { first = 269; low = 12; number = head.number; heard = head.heard; id = head.id; last = head.last; loops = head.loops }
 
 -- the two ways to read it
 heads : (v : Values) (a b c d e : Option ℕ) → seq_at v ≡ a → heard_at v ≡ b → instrument_of v ≡ c → last_at v ≡ d → loops_at v ≡ e
@@ -259,26 +259,26 @@ module _ (depth : ℕ) (fs : List Field) where
 
   w_answer : (h : Head) (o : Option (List (List Field)))
       → telling (o >>= λ es. each (entry_in_w depth h.id) es >>= λ us. need (running firsts us) (Some (snapshot h us)))
-      ≡ listing depth (w_top h) o >>= λ us. Some (told_by (w_top h) us)
+      ≡ listing depth (w_top h) o >>= λ us. Some (told_by Snapshot (w_top h) us)
   unfolding listing entry_in ordered told
   w_answer h None = refl
   w_answer h (Some es) = go (each (entry_in_w depth h.id) es)
     where
-      pick : (z : Bool) (us : List Update) → telling (need z (Some (snapshot h us))) ≡ need z (Some us) >>= λ us. Some (told_by (w_top h) us)
+      pick : (z : Bool) (us : List Update) → telling (need z (Some (snapshot h us))) ≡ need z (Some us) >>= λ us. Some (told_by Snapshot (w_top h) us)
       pick true us = refl
       pick false us = refl
 
       go : (r : Option (List Update))
-          → telling (r >>= λ us. need (running firsts us) (Some (snapshot h us))) ≡ (r >>= λ us. need (running firsts us) (Some us)) >>= λ us. Some (told_by (w_top h) us)
+          → telling (r >>= λ us. need (running firsts us) (Some (snapshot h us))) ≡ (r >>= λ us. need (running firsts us) (Some us)) >>= λ us. Some (told_by Snapshot (w_top h) us)
       go None = refl
       go (Some us) = pick (running firsts us) us
 
-  w_is : tidy (below 21) (between 4 11) (up_to 268 fs) ≡ true → (t : Top) → TopW w t → group_said depth t (onward 268 fs) ≡ telling (snapshot_of depth fs)
+  w_is : tidy (below 21) (between 4 11) (up_to 268 fs) ≡ true → (t : Top) → TopW w t → group_said Snapshot depth t (onward 268 fs) ≡ telling (snapshot_of depth fs)
   unfolding snapshot_of below between
   w_is e t p =
       let q = p.same in
       rw (e, p.read, q)
-      (sym (w_answer p.head (group_of 269 entry_w fs) ∙ ap (λ (o : Option (List Update)). o >>= λ us. Some (told_by (w_top p.head) us)) (group_from depth (w_top p.head) fs)))
+      (sym (w_answer p.head (group_of 269 entry_w fs) ∙ ap (λ (o : Option (List Update)). o >>= λ us. Some (told_by Snapshot (w_top p.head) us)) (group_from depth (w_top p.head) fs)))
 
 -- ---- X and W
 module _ (k : Kind) (depth : ℕ) (fs : List Field) where
@@ -297,11 +297,11 @@ module _ (k : Kind) (depth : ℕ) (fs : List Field) where
       go Snapshot h = w_no_top depth fs h
 
   pub topped_body : tidy (below 21) (between 4 (head_end k)) (up_to 268 fs) ≡ true → (t : Top) → top_by k (lookup (up_to 268 fs)) ≡ Some t
-      → group_said depth t (onward 268 fs) ≡ telling (body_by k depth fs)
+      → group_said k depth t (onward 268 fs) ≡ telling (body_by k depth fs)
   topped_body = go k
     where
       go : (k : Kind) → tidy (below 21) (between 4 (head_end k)) (up_to 268 fs) ≡ true → (t : Top) → top_by k (lookup (up_to 268 fs)) ≡ Some t
-          → group_said depth t (onward 268 fs) ≡ telling (body_by k depth fs)
+          → group_said k depth t (onward 268 fs) ≡ telling (body_by k depth fs)
       go Numbered h t e = x_is depth fs h t (is_top_x (lookup (up_to 268 fs)) e)
       go Snapshot h t e = w_is depth fs h t (is_top_w (lookup (up_to 268 fs)) e)
 
@@ -371,7 +371,7 @@ module _ (fs : List Field) where
       (x_none y (λ n at. Some (numbered n at [])) h)
 
   pub o_is : all_tagged fs ≡ true → tidy (below 6) (between 4 6) (up_to 268 fs) ≡ true → tidy (below 6) (between 0 0) (up_to 0 (onward 268 fs)) ≡ true
-      → (t : Top) → TopX y t → telling (other_of fs) ≡ Some (told_by t [])
+      → (t : Top) → TopX y t → telling (other_of fs) ≡ Some (told_by Numbered t [])
   unfolding other_of told below between
   o_is f h k t p =
       let q = p.same in

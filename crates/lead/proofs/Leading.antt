@@ -6,6 +6,7 @@ use Prim.Native.Nat.{ℕ}
 use native.Mathlib.Omega.{arith}
 use lib.ListN.{length}
 use Rattle.message.specs.Message.{Told}
+use Rattle.message.specs.declared.Kind.{Kind}
 use Rattle.chain.specs.Places.{left}
 use Rattle.chain.proofs.Walk.{walked}
 use Rattle.position.specs.Positions.{firsts, Fair}
@@ -24,9 +25,9 @@ none_grouped : (depth : ℕ) (t : Top) (s : List ℕ) → grouped depth t 0 (lef
 none_grouped depth t s =
     ap (grouped depth t 0) (walked s (length s) (omega arith)) ∙ group_start depth t 0 [] ∙ at_end_lem depth t 0 firsts [] refl
 
-pub leads_alone : (s : List ℕ) (t : Top) (e : Option Lead) (f : ℕ → Option Told) → Fair t → e ≡ Some (record { top = t; at = length s; count = 0 })
-    → ((depth : ℕ) → f depth ≡ Some (told_by t [])) → Leads s (Some (record { top = t; at = length s; count = 0 })) e f
-leads_alone s t e f h q g = record { exact = sym q; fair = h; few = omega arith; says = λ depth. rw (none_grouped depth t s) (sym (g depth)) }
+pub leads_alone : (s : List ℕ) (k : Kind) (t : Top) (e : Option Lead) (f : ℕ → Option Told) → Fair t → e ≡ Some (record { kind = k; top = t; at = length s; count = 0 })
+    → ((depth : ℕ) → f depth ≡ Some (told_by k t [])) → Leads s (Some (record { kind = k; top = t; at = length s; count = 0 })) e f
+leads_alone s k t e f h q g = record { exact = sym q; fair = h; few = omega arith; says = λ depth. rw (none_grouped depth t s) (sym (g depth)) }
 
 -- in other words
 pub leads_as : {s : List ℕ} {l d e : Option Lead} {f : ℕ → Option Told} → Leads s l d f → d ≡ e → (g : ℕ → Option Told)

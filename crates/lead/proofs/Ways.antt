@@ -27,9 +27,9 @@ use Rattle.lead.proofs.Leading.{leads_none, leads_alone, leads_as}
 use Rattle.lead.proofs.Bodies.{no_group, bad_count, good_count, untidy_body, topless_body, topped_body, top_same, top_fair, o_untidy, o_untidy_rest, o_no_top, o_is, is_top_x, top_x_same}
 
 -- ---- the group from 268 on
-module _ (s : List ℕ) (start : ℕ) (t : Top) where
+module _ (s : List ℕ) (start : ℕ) (k : Kind) (t : Top) where
   abbrev Counts : Option Lead → Type 0
-  Counts l = Leads s l (counted_lead s start t) (λ depth. group_said depth t (left s start))
+  Counts l = Leads s l (counted_lead s start k t) (λ depth. group_said k depth t (left s start))
 
   pub torn_leads : {l : Option Lead} → l ≡ None → field_at s start ≡ None → Counts l
   unfolding counted_lead
@@ -40,7 +40,7 @@ module _ (s : List ℕ) (start : ℕ) (t : Top) where
     unfolding counted_lead
     bad_leads q r = leads_none q (rw (e, r)) (λ depth. rw (bad_count s start depth t tag from to e r))
 
-    pub good_leads : Fair t → {l : Option Lead} {n : ℕ} → l ≡ Some (record { top = t; at = to + 1; count = n }) → ranged_of 2 0 64 (part from to s) ≡ Some n → Counts l
+    pub good_leads : Fair t → {l : Option Lead} {n : ℕ} → l ≡ Some (record { kind = k; top = t; at = to + 1; count = n }) → ranged_of 2 0 64 (part from to s) ≡ Some n → Counts l
     unfolding counted_lead
     good_leads h {n = n} q r =
         rw q (record { exact = rw (e, r); fair = h; few = (ranged_in 2 0 64 (part from to s) r).high; says = λ depth. rw (good_count s start depth t tag from to e n r) })
@@ -62,12 +62,12 @@ module _ (k : Kind) (s : List ℕ) where
     unfolding group_lead
     topless_leads q e = leads_none q (rw (sym w.exact, good, e)) (λ depth. ap telling (topless_body k depth (left s 0) (sym alike ∙ e)))
 
-    pub topped_leads : {l : Option Lead} {t : Top} → top_by k (marked s p.marks) ≡ Some t → Leads s l (counted_lead s p.at t) (λ depth. group_said depth t (left s p.at)) → Group l
+    pub topped_leads : {l : Option Lead} {t : Top} → top_by k (marked s p.marks) ≡ Some t → Leads s l (counted_lead s p.at k t) (λ depth. group_said k depth t (left s p.at)) → Group l
     unfolding group_lead
     topped_leads {t = t} e h =
         let y = walk_tidy (omega arith) w good in
         leads_as h (rw (sym w.exact, good, e)) (λ depth. telling (body_by k depth (left s 0)))
-        (λ depth. ap (group_said depth t) y.rest ∙ topped_body k depth (left s 0) y.tidy t (sym alike ∙ e))
+        (λ depth. ap (group_said k depth t) y.rest ∙ topped_body k depth (left s 0) y.tidy t (sym alike ∙ e))
 
 -- ---- the other types
 module _ (s : List ℕ) where
@@ -93,10 +93,10 @@ module _ (s : List ℕ) where
       unfolding other_lead
       topless_other q e = leads_none q (rw (sym w.exact, good, sym x.exact, tidy_too, e)) (λ depth. ap telling (o_no_top (left s 0) (sym same ∙ e)))
 
-      pub topped_other : {l : Option Lead} {t : Top} → top_x (marked s p.marks) ≡ Some t → l ≡ Some (record { top = t; at = length s; count = 0 }) → Other l
+      pub topped_other : {l : Option Lead} {t : Top} → top_x (marked s p.marks) ≡ Some t → l ≡ Some (record { kind = Numbered; top = t; at = length s; count = 0 }) → Other l
       unfolding other_lead
       topped_other {t = t} e q =
           let y = walk_tidy (omega arith) w good in
           let h : tidy (below 6) (between 0 0) (up_to 0 (onward 268 (left s 0))) ≡ true = rw y.rest at (walk_tidy (omega arith) x tidy_too).tidy in
-          rw q (leads_alone s t (other_lead s) (λ depth. telling (other_of (left s 0))) (top_fair Numbered (marked s p.marks) e) (rw (sym w.exact, good, sym x.exact, tidy_too, e))
+          rw q (leads_alone s Numbered t (other_lead s) (λ depth. telling (other_of (left s 0))) (top_fair Numbered (marked s p.marks) e) (rw (sym w.exact, good, sym x.exact, tidy_too, e))
           (λ depth. o_is (left s 0) (left_tagged s 0) y.tidy h t (is_top_x (lookup (up_to 268 (left s 0))) (sym same ∙ e))))

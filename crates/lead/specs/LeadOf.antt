@@ -14,18 +14,18 @@ use Rattle.lead.specs.Leads.{top_x, top_by, head_end}
 use Rattle.lead.specs.declared.Lead.{Lead}
 
 -- The group from 268 on: the field that stands there, and the number that it says.
-unfoldable pub counted_lead : List ℕ → ℕ → Top → Option Lead
-counted_lead s start t =
+unfoldable pub counted_lead : List ℕ → ℕ → Kind → Top → Option Lead
+counted_lead s start kind t =
     field_at s start >>= λ f.
     ranged_of 2 0 64 (part f.from f.to s) >>= λ n.
-    Some (record { top = t; at = f.to + 1; count = n })
+    Some (record { kind = kind; top = t; at = f.to + 1; count = n })
 
 -- X and W: the place before 268, what the type needs of it, then the group.
 unfoldable pub group_lead : Kind → List ℕ → Option Lead
 group_lead kind s =
     passed (walk_on 268 21 4 (head_end kind) 0 no_marks (left s 0)) >>= λ p.
     top_by kind (marked s p.marks) >>= λ t.
-    counted_lead s p.at t
+    counted_lead s p.at kind t
 
 -- 0, f, y, B: the place before 268, the rest, then the number and the time. Without a group the entries start at the end,
 -- and none is counted.
@@ -34,7 +34,7 @@ other_lead s =
     passed (walk_on 268 6 4 6 0 no_marks (left s 0)) >>= λ p.
     passed (walk_on 0 6 0 0 p.at no_marks (left s p.at)) >>= λ q.
     top_x (marked s p.marks) >>= λ t.
-    Some (record { top = t; at = length s; count = 0 })
+    Some (record { kind = Numbered; top = t; at = length s; count = 0 })
 
 -- By the type: X (88), W (87), or another.
 abbrev pub lead_of : ℕ → List ℕ → Option Lead

@@ -20,7 +20,7 @@ unfoldable pub top_x : Values → Option Top
 top_x v =
     seq_at v >>= λ n.
     heard_at v >>= λ heard.
-    Some (record { kind = Numbered; first = 279; low = 8; number = n; heard = heard; id = 0; last = 0; loops = 0 })
+    Some (record { first = 279; low = 8; number = n; heard = heard; id = 0; last = 0; loops = 0 })
 
 unfoldable pub top_w : Values → Option Top
 top_w v =
@@ -28,7 +28,7 @@ top_w v =
     instrument_of v >>= λ id.
     last_at v >>= λ last.
     loops_at v >>= λ loops.
-    Some (record { kind = Snapshot; first = 269; low = 12; number = t.number; heard = t.heard; id = id; last = last; loops = loops })
+    Some (record { first = 269; low = 12; number = t.number; heard = t.heard; id = id; last = last; loops = loops })
 
 abbrev pub top_by : Kind → Values → Option Top
 top_by Numbered v = top_x v
@@ -49,11 +49,11 @@ abbrev pub telling : Option Message → Option Told
 telling None = None
 telling (Some m) = Some (told m)
 
--- What is told of what stands before some entries, with them.
-abbrev pub told_by : Top → List Update → Told
-told_by t us =
+-- What is told of a message of this kind and what stands before some entries, with them.
+abbrev pub told_by : Kind → Top → List Update → Told
+told_by kind t us =
     record {
-      reading = Ok (record { kind = t.kind; number = t.number; heard = t.heard; id = t.id; last = t.last; loops = t.loops; count = length us });
+      reading = Ok (record { kind = kind; number = t.number; heard = t.heard; id = t.id; last = t.last; loops = t.loops; count = length us });
       entries = us;
     }
 
@@ -62,13 +62,13 @@ unfoldable pub counted : ℕ → Top → List Field → Option (List Update)
 counted depth t [] = None
 counted depth t (f ∷ fs) = ranged_of 2 0 64 f.text >>= λ n. grouped depth t n fs
 
-abbrev pub group_said : ℕ → Top → List Field → Option Told
-group_said depth t fs = counted depth t fs >>= λ us. Some (told_by t us)
+abbrev pub group_said : Kind → ℕ → Top → List Field → Option Told
+group_said kind depth t fs = counted depth t fs >>= λ us. Some (told_by kind t us)
 
 -- What is told by what is led to, on a channel of a depth kind.
 abbrev pub led : ℕ → List ℕ → Option Lead → Option Told
 led depth s None = None
-led depth s (Some l) = grouped depth l.top l.count (left s l.at) >>= λ us. Some (told_by l.top us)
+led depth s (Some l) = grouped depth l.top l.count (left s l.at) >>= λ us. Some (told_by l.kind l.top us)
 
 -- The entries can be told apart.
 abbrev pub FairLead : Option Lead → Type 0

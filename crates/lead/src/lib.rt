@@ -28,10 +28,11 @@ const HEAD_X_END: usize = tags::LAST;
 
 const HEAD_W_END: usize = tags::ACTION;
 
-// What leads to the entries: what stands before them, the place where they start, and what 268 says. Where there is no
-// group, they start at the end and 268 is 0.
+// What leads to the entries: what the message is, what stands before them, the place where they start, and what 268 says.
+// Where there is no group, they start at the end and 268 is 0.
 #[derive(Clone, Copy)]
 pub struct Lead {
+    pub kind: Kind,
     pub top: Top,
     pub at: usize,
     pub count: u64,
@@ -45,7 +46,6 @@ fn top_x(v: Values) -> Option<Top>
     let number = digits::ranged(v.get(tags::SEQ), 10, 1, message::MOST_NUMBER)?;
     let heard = moment::moment(v.get(tags::SENT))?;
     Some(Top {
-        kind: Kind::Numbered,
         first: position::FIRST_X,
         low: position::ENTRY_X,
         number,
@@ -66,7 +66,6 @@ fn top_w(v: Values) -> Option<Top>
     let last = digits::ranged(v.get(tags::LAST), 10, 0, message::MOST_NUMBER)?;
     let loops = digits::ranged(v.get(tags::LOOPS), 10, 1, message::MOST_NUMBER)?;
     Some(Top {
-        kind: Kind::Snapshot,
         first: position::FIRST_W,
         low: position::ENTRY_W,
         id,
@@ -97,13 +96,14 @@ fn head_end(kind: Kind) -> usize
 }
 
 // The group from 268 on.
-fn counted(s: &[u8], start: usize, top: Top) -> Option<Lead>
+fn counted(s: &[u8], start: usize, kind: Kind, top: Top) -> Option<Lead>
     requires { Fair top }
-    ensures { Leads s.now result (counted_lead s.now start top) (λ depth. group_said depth top (left s.now start)) }
+    ensures { Leads s.now result (counted_lead s.now start kind top) (λ depth. group_said kind depth top (left s.now start)) }
 {
     let Step { tag: _, from, to } = chain::field(s, start)?;
     let count = digits::ranged(&s[from..to], 2, 0, 64)?;
     Some(Lead {
+        kind,
         top,
         at: to + 1,
         count,
@@ -130,7 +130,7 @@ fn with_group(s: &[u8], kind: Kind) -> Option<Lead>
         marks: &marks,
     };
     let top = top(head, kind)?;
-    counted(s, at, top)
+    counted(s, at, kind, top)
 }
 
 // 0, f, y, B.
@@ -147,6 +147,7 @@ fn other(s: &[u8]) -> Option<Lead>
     };
     let top = top_x(head)?;
     Some(Lead {
+        kind: Kind::Numbered,
         top,
         at: s.len(),
         count: 0,

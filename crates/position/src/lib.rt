@@ -7,7 +7,6 @@ ghost use Rattle.tags.specs.ByTag.{by_tag};
 ghost use Rattle.position.specs.Positions.{next_on, next_after, entry_next};
 
 use entries::Said;
-use message::Kind;
 use tags::Values;
 
 // The first tag of an entry in X and in W.
@@ -22,12 +21,11 @@ pub const ENTRY_W: usize = tags::SORT;
 
 pub const ENTRY_END: usize = tags::COUNT;
 
-// How a group is read and what stands before it: what the message is, the first tag of an entry and the first slot that may
-// stand in one, and the reading's numbers.
-// Kept: first and low stand beside kind, since `entry` answers for every Top and `group::listed` for every one that is `Fair`, of any first tag.
+// How a group is read and what stands before it: the first tag of an entry and the first slot that may stand in one,
+// and the reading's numbers.
+// Kept: first and low and no kind of message, since `entry` answers for every Top and `group::listed` for every one that is `Fair`, of any first tag.
 #[derive(Clone, Copy)]
 pub struct Top {
-    pub kind: Kind,
     pub first: u64,
     pub low: usize,
     pub number: u64,
