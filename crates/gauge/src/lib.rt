@@ -20,7 +20,7 @@ pub fn selkavorn_gauge_digits(text: &[u8]) -> u64
     digits::digits(text, WIDTH).unwrap_or(NONE)
 }
 
-// 1 to width digits as `digits::digits` read them before document 02's K3: one a turn.
+// 1 to width digits as `digits::digits` read them before document 02's K3: one a turn. Its loop is a `for` today.
 fn by_one(text: &[u8], width: usize) -> Option<u64>
     ensures { result ≡ digits_of width text.now }
 {

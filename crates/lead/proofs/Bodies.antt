@@ -190,7 +190,7 @@ module _ (depth : ℕ) (fs : List Field) where
       go None = refl
       go (Some us) = refl
 
-  x_is : tidy (below 21) (between 4 6) (up_to 268 fs) ≡ true → (t : Top) → TopX v t → group_said Numbered depth t (onward 268 fs) ≡ telling (changes_of depth fs)
+  pub x_is : tidy (below 21) (between 4 6) (up_to 268 fs) ≡ true → (t : Top) → TopX v t → group_said Numbered depth t (onward 268 fs) ≡ telling (changes_of depth fs)
   unfolding changes_of below between
   x_is h t p =
       let q = p.same in
@@ -273,7 +273,7 @@ module _ (depth : ℕ) (fs : List Field) where
       go None = refl
       go (Some us) = pick (running firsts us) us
 
-  w_is : tidy (below 21) (between 4 11) (up_to 268 fs) ≡ true → (t : Top) → TopW w t → group_said Snapshot depth t (onward 268 fs) ≡ telling (snapshot_of depth fs)
+  pub w_is : tidy (below 21) (between 4 11) (up_to 268 fs) ≡ true → (t : Top) → TopW w t → group_said Snapshot depth t (onward 268 fs) ≡ telling (snapshot_of depth fs)
   unfolding snapshot_of below between
   w_is e t p =
       let q = p.same in

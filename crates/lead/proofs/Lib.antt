@@ -1,3 +1,4 @@
 pub mod Leading
 pub mod Bodies
+pub mod Answered
 pub mod Ways

@@ -185,7 +185,7 @@ opens_some depth ids e =
     within_true 1 16 (length ids) p.1
 
 -- numbers that stand side by side are the list itself
-spread_all : (ids : List ℕ) → spread ids 0 1 (length ids) ≡ ids
+pub spread_all : (ids : List ℕ) → spread ids 0 1 (length ids) ≡ ids
 spread_all ids =
     tab_is 0 (λ (i : ℕ). get_or ids (0 + i * 1) 0) ids (λ i h.
     let e : 0 + i * 1 ≡ i = omega arith in

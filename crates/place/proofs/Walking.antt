@@ -21,7 +21,7 @@ use Rattle.tags.specs.declared.Marks.{Marks}
 use Rattle.tags.specs.declared.Span.{Span}
 use Rattle.tags.proofs.Marking.{none_held, with_span, held_more}
 use Rattle.tags.proofs.Tidiness.{fits, fits_test, tidy_nil, tidy_more}
-use Rattle.place.specs.Places.{Place, place_of, split_from, Tells}
+use Rattle.place.specs.Places.{Place, place_of, split_at, split_from, Tells}
 use Rattle.place.specs.Walks.{soh_at, mark_at, walk_on, Walk}
 use Rattle.place.proofs.Splits.{split_end, split_stop, split_stray, split_more}
 
@@ -222,7 +222,7 @@ walked_forth w = rw w.exact (forth_on _ _ _ _ _ _ _)
 
 -- ---- a walk that starts with no marks
 module _ {s : List ℕ} {start stop named low high : ℕ} (n : named ≤ 21) {p : Place} (w : Walk s start stop named low high no_marks p) where
-  tells_all : Tells named s p (split_from stop named low high [] (left s start))
+  pub tells_all : Tells named s p (split_at stop named low high (left s start))
   tells_all = w.tells [] (none_held named s n) (tidy_nil (below named) (between low high))
 
   pub walk_untidy : p.ok ≡ false → tidy (below named) (between low high) (up_to stop (left s start)) ≡ false

@@ -68,7 +68,7 @@ module _ (s : State) (i : ℕ) (l : Letter) (id : ℕ) where
 
 module _ (id : ℕ) (sender target : List ℕ) (k m : ℕ) (time room xs : List ℕ) where
   -- what is said of the page is said of the call
-  sent : (p : Page) → sent_page id sender target k m time xs ≡ p → Sent id sender target k m time room xs (page_answer p room) (page_out p room)
+  pub sent : (p : Page) → sent_page id sender target k m time xs ≡ p → Sent id sender target k m time room xs (page_answer p room) (page_out p room)
   unfolding send_answer send_out
   sent p e = record { answer = sym (ap (λ (q : Page). page_answer q room) e); out = sym (ap (λ (q : Page). page_out q room) e) }
 
