@@ -52,7 +52,7 @@ fn feed_reading(store: &mut [u64], h: Heading, r: Reading, run: &mut [u64]) -> F
     };
     match r.kind {
         Kind::Numbered => count::number(store, h, r.number, r.heard, us),
-        Kind::Snapshot => kept::snapshot(store, h, r, us),
+        Kind::Snapshot => kept::snapshot(store, h, r.head(), us),
     }
 }
 

@@ -12,7 +12,7 @@ ghost use Rattle.taking.specs.Replays.{snap_s};
 
 use cells::run::Updates;
 use heading::Heading;
-use message::{Answer, Reading, Refusal};
+use message::{Answer, Head, Refusal};
 use store::Fed;
 
 // A message that is not read leaves the board as it was.
@@ -26,7 +26,7 @@ pub fn unread(h: Heading, why: Refusal) -> Fed
 }
 
 // A snapshot: its 34 is not compared with H, and its 52 dates nothing.
-pub fn snapshot(store: &mut [u64], h: Heading, r: Reading, us: Updates) -> Fed
+pub fn snapshot(store: &mut [u64], h: Heading, r: Head, us: Updates) -> Fed
     requires { Formed (st h store.old) }
     ensures { fed (number_of result.answer) (st result.head store.new) ≡ snap_s r.id r.last (updates_of us.entry) (st h store.old) }
 {

@@ -3,12 +3,12 @@
 #![tactic(auto)]
 
 ghost use Rattle.std.specs.Prelude.{◌≡◌, ◌≤◌, ◌<◌};
-ghost use Rattle.message.specs.Message.{most_number, head_in};
+ghost use Rattle.message.specs.Message.{most_number};
 ghost use Rattle.heading.specs.Marks.{marked};
 ghost use Rattle.loops.specs.Loops.{loop_of, no_loop, is_whole, with_name, in_row};
 ghost use Rattle.loops.specs.Sound.{sound_loop};
 
-use message::Reading;
+use message::Head;
 
 // loops: 911, or 0 where no loop runs. come: how many W have come. low: the lowest 369 among them. named: one bit an instrument, 1 for
 // one that a W of the loop was for.
@@ -67,9 +67,9 @@ impl Loop {
     // A W has come for the instrument at index i of n: its 34 is 1 and begins a loop, or it is the next of this one with the same
     // 911; any other drops it.
     #[tactic(auto, using(crate::proofs::Joins::lower_min, crate::proofs::Joins::begins, crate::proofs::Joins::drops, crate::proofs::Joins::grows))]
-    pub fn join(self, r: Reading, n: usize, i: usize) -> Loop
+    pub fn join(self, r: Head, n: usize, i: usize) -> Loop
         requires { (self.come ≤ most_number) × (n ≤ 16) }
-        ensures { result ≡ in_row (head_in r) n i self }
+        ensures { result ≡ in_row r n i self }
     {
         if r.number == 1 {
             return Loop {

@@ -6,18 +6,15 @@ use Rattle.message.specs.declared.Refusal.TheVariants.{BadFrame, BadSum, BadType
 use Rattle.message.specs.declared.Kind.{Kind}
 use Rattle.message.specs.declared.Kind.TheVariants.{Numbered, Snapshot}
 use Rattle.message.specs.declared.Reading.{Reading}
+use Rattle.message.specs.declared.Head as head
 
 -- 34, 369 and 911 end here.
 abbrev pub most_number : ℕ
 most_number = 4294967295
 
 -- What stands before the entries of a W: 34, 52's moment, 48, 369, 911.
-pub record Head : Type 0 where
-  pub number : ℕ
-  pub heard : ℕ
-  pub id : ℕ
-  pub last : ℕ
-  pub loops : ℕ
+abbrev pub Head : Type 0
+Head = head.Head
 
 pub data Message : Type 0 where
   -- X, 0, f, y, B: 34, 52's moment, and the bid, offer and J entries in order; who is the SecurityID

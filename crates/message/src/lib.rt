@@ -3,7 +3,7 @@
 #![tactic(auto)]
 
 ghost use Rattle.std.specs.Prelude.{◌≡◌};
-ghost use Rattle.message.specs.Message.{answer_of};
+ghost use Rattle.message.specs.Message.{answer_of, head_in};
 ghost use Rattle.message.specs.Answers.{number_of};
 
 // 34, 369 and 911 are at most this.
@@ -107,4 +107,29 @@ pub struct Reading {
     pub last: u64,
     pub loops: u64,
     pub count: usize,
+}
+
+// What stands before the entries of a W: numbers of a reading, named as there, without its kind and its count.
+#[derive(Clone, Copy)]
+pub struct Head {
+    pub number: u64,
+    pub heard: u64,
+    pub id: u64,
+    pub last: u64,
+    pub loops: u64,
+}
+
+impl Reading {
+    // What stands before the entries of the W that a reading tells.
+    pub fn head(self) -> Head
+        ensures { result ≡ head_in self }
+    {
+        Head {
+            number: self.number,
+            heard: self.heard,
+            id: self.id,
+            last: self.last,
+            loops: self.loops,
+        }
+    }
 }

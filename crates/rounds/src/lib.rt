@@ -73,7 +73,7 @@ fn looped(store: &mut [u64], h: Heading, l: Loop, r: Reading, run: &mut [u64]) -
     ensures rounds { Rounds (head_in r) l (st h store.old) result.row (st result.head store.new) }
     ensures run_unchanged { run.new ≡ run.old }
 {
-    let m = l.join(r, h.followed, store::find(store, h, r.id));
+    let m = l.join(r.head(), h.followed, store::find(store, h, r.id));
     if !m.is_whole() {
         return Round { head: h, row: m };
     }

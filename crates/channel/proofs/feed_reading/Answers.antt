@@ -14,4 +14,4 @@ returns-in-Numbered-clause-feeds c =
 pub returns-in-Snapshot-clause-feeds : goal.returns-in-Snapshot-clause-feeds
 returns-in-Snapshot-clause-feeds c =
     let says = ap (λ (v : Kind). said_by v c.args.r (updates_in c.args.run.now c.args.r.count)) c.in-Snapshot.is in
-    snapshot_feeds says c.requires.0 c.aim.ensures.entries c.snapshot.ensures
+    snapshot_feeds says c.requires.0 c.aim.ensures.entries (rw c.head.ensures at c.snapshot.ensures)
