@@ -5,11 +5,14 @@ use mathlib.Core.List.{List, [], ◌∷◌}
 use Prim.Native.Nat.{ℕ, zero, suc, ◌+◌, ◌-◌, ◌≤◌, ◌<◌, min}
 use native.Mathlib.Omega.{arith}
 use native.Mathlib.Numerals.{add-one}
-use lib.ListN.{length, drop, get_or, drop_of_length-le}
+use lib.ListN.{length, take, drop, get_or, drop_of_length-le}
 use lib.Seq.{drop-cons, take_all}
 use lib.IntN.{ℤ, pos, ◌+ℤ◌, ◌*ℤ◌, +ℤ_idl, +ℤ_idr, +ℤ_assoc, *ℤ-zero}
 use Rattle.std.specs.Prelude.{Option, None, Some}
+use Rattle.std.proofs.lemmas.List.{take_min}
 use Rattle.book.specs.declared.Entry.{Entry}
+use Rattle.book.specs.declared.Side.{Side}
+use Rattle.book.specs.Canonical.{held_in}
 use Rattle.sums.specs.Sums.{fits, sum_of, level_of}
 use Rattle.sums.proofs.Levels.{most, Stands, stands, none}
 use Rattle.proceeds.specs.declared.Sale.{Sale}
@@ -76,6 +79,10 @@ pub run_lot : (n : ℕ) (es : List Entry) → run (pos 0) n es ≡ lot_of n es
 unfolding lot_of
 run_lot n es = run_is (pos 0) n es ∙ rw (all_from_lem n es (length es), +ℤ_idl (sum_after n es (length es)), whole n es)
 
+-- what a side holds: the first of its places, as many as its number says or as there are
+pub first_held : (s : Side) (n : ℕ) (xs : List Entry) → xs ≡ s.places → n ≡ min s.held (length xs) → held_in s ≡ take n xs
+first_held s n xs e m = rw (m, take_min s.held xs, e)
+
 -- ---- the ways of a turn
 pub run_end : (z : ℤ) (n i : ℕ) (es : List Entry) → length es ≤ i → run z n (drop i es) ≡ Some (record { sum = z; left = n })
 unfolding run
@@ -91,6 +98,9 @@ run_sold z [] h = refl
 run_sold z (e ∷ es) h =
     let l : 0 - e.size ≡ 0 = omega arith in
     rw (no_units z e, h, l) (run_sold z es h)
+
+pub run_out : (z : ℤ) (n : ℕ) (es : List Entry) → fits z ≡ true → n ≡ 0 → run z n es ≡ Some (record { sum = z; left = n })
+run_out z n es h e = rw e (run_sold z es h)
 
 -- a turn from a level, at the place with the index i: so many units at a price, and the level that was told
 module _ (es : List Entry) (i level left : ℕ) (d : Entry) (h : i < length es)

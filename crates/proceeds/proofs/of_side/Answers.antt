@@ -1,12 +1,12 @@
 -- The whole lot is what the places that are left make of the present sum. Assumes nothing.
-use Rattle.std.proofs.Common.{◌≡◌, ◌-◌, ◌≤◌, ℤ, Some, take, drop, arith, sym, ap, ◌∙◌}
-use Rattle.std.proofs.lemmas.List.{take_min}
+use Rattle.std.proofs.Common.{◌≡◌, ◌-◌, ◌≤◌, ℤ, pos, Some, arith, sym, ap, ◌∙◌}
 use mir.Syntax.{w64}
 use mir.Facts.{to_z-of_z}
 use Rattle.book.specs.Canonical.{held_in}
 use Rattle.sums.specs.Sums.{sum_of}
 use Rattle.sums.proofs.Levels.{fits_sum}
-use Rattle.proceeds.proofs.Runs.{run, run_lot, run_end, run_sold, turn_out, turn_on}
+use Rattle.proceeds.specs.Lots.{lot_of}
+use Rattle.proceeds.proofs.Runs.{run, first_held, run_lot, run_end, run_out, turn_out, turn_on}
 use Rattle.proceeds.proofs.of_side.Goals.{else-loop-e-test, then-loop-e-test+then-left-eq0}
 use Rattle.proceeds.proofs.of_side.Goals as goal
 
@@ -14,8 +14,7 @@ pub loop-e-init : goal.loop-e-init
 unfolding sum_of
 loop-e-init c =
     let s = c.args.s.now in
-    let e : take c.min.result c.as_slice-places.result.now ≡ held_in s = rw (c.min.ensures, c.as_slice-places.ensures) (take_min s.held s.places) in
-    (omega arith, omega arith, rw e (sym (run_lot c.args.quantity (held_in s))))
+    (omega arith, omega arith, sym (run_lot c.args.quantity (held_in s)) ∙ ap (run (pos 0) c.args.quantity) (first_held s _ _ c.as_slice-places.ensures (omega arith)))
 
 pub returns-in_err-level : goal.returns-in_err-level
 returns-in_err-level c =
@@ -35,10 +34,9 @@ loop-e-preserved c =
 pub returns : goal.returns
 returns c =
     let l = c.loop-e in
-    let es = drop l.e-index (take c.min.result c.as_slice-places.result.now) in
-    let over : run (sum_of l.level) l.left es ≡ Some (record { sum = sum_of l.level; left = l.left }) =
+    let over : lot_of c.args.quantity (held_in c.args.s.now) ≡ Some (record { sum = sum_of l.level; left = l.left }) =
     elim c.loop-e-test.branch [
-      | else-loop-e-test w ↦ run_end _ _ l.e-index (take c.min.result c.as_slice-places.result.now) w.loop-e-test.false
-      | then-loop-e-test+then-left-eq0 w ↦ let z : l.left ≡ 0 = w.if-left-eq0.true in rw z (run_sold _ es (fits_sum l.level l.invariant.0))
+      | else-loop-e-test w ↦ l.invariant.2 ∙ run_end _ _ l.e-index _ w.loop-e-test.false
+      | then-loop-e-test+then-left-eq0 w ↦ l.invariant.2 ∙ run_out _ _ _ (fits_sum l.level l.invariant.0) w.if-left-eq0.true
     ] in
-    ap (λ (z : ℤ). Some (record { sum = z; left = l.left })) (to_z-of_z {w = w64} (record { sfits = c.sum_at.type_inv }) ∙ c.sum_at.ensures) ∙ sym (l.invariant.2 ∙ over)
+    ap (λ (z : ℤ). Some (record { sum = z; left = l.left })) (to_z-of_z {w = w64} (record { sfits = c.sum_at.type_inv }) ∙ c.sum_at.ensures) ∙ sym over
