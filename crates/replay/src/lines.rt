@@ -3,6 +3,9 @@ use crate::record;
 use std::io;
 use std::io::Write;
 
+// The digits of a byte that is not seen.
+const DIGITS: [u8; 16] = *b"0123456789abcdef";
+
 fn end(out: &mut impl Write) -> io::Result<()> {
     out.write_all(b"\n")
 }
@@ -65,16 +68,41 @@ pub(crate) fn written(
     end(out)
 }
 
-// A space and the bytes as text: a bar for SOH, itself where a byte can be seen and is neither bar nor backslash, else its hexadecimal
-// digits.
-fn bytes(out: &mut impl Write, text: &[u8]) -> io::Result<()> {
-    out.write_all(b" ")?;
-    for b in text {
-        match *b {
-            1 => out.write_all(b"|")?,
-            b'|' | b'\\' | 0..=b' ' | 127..=255 => write!(out, "\\x{b:02x}")?,
-            seen => out.write_all(&[seen])?,
+// A place later in the line, with a byte put there; where the line is full nothing is put.
+fn put(line: &mut [u8], at: usize, b: u8) -> usize {
+    match line.get_mut(at) {
+        Some(place) => {
+            *place = b;
+            at + 1
         }
+        None => at,
     }
-    Ok(())
+}
+
+// A byte as text: a bar for SOH, itself where it can be seen and is neither bar nor backslash, else its hexadecimal digits.
+fn put_byte(line: &mut [u8], at: usize, b: u8) -> usize {
+    match b {
+        1 => put(line, at, b'|'),
+        b'|' | b'\\' | 0..=b' ' | 127..=255 => {
+            let high = DIGITS[usize::from(b / 16)];
+            let low = DIGITS[usize::from(b % 16)];
+            let x = put(line, at, b'\\');
+            let digits = put(line, x, b'x');
+            let last = put(line, digits, high);
+            put(line, last, low)
+        }
+        seen => put(line, at, seen),
+    }
+}
+
+// A space and the bytes as text: up to 4,307 bytes, each of at most four in the line. The line goes out whole, in one write: by bytes it
+// took longer, and a buffer that fills went out elsewhere in the line.
+fn bytes(out: &mut impl Write, text: &[u8]) -> io::Result<()> {
+    let mut line = [0u8; 17228];
+    let mut n = 0;
+    for b in text {
+        n = put_byte(&mut line, n, *b);
+    }
+    out.write_all(b" ")?;
+    out.write_all(record::start(&line, n))
 }
