@@ -10,14 +10,16 @@ use lib.ListN.{take, drop}
 use borrow.Author.Tests.{eqb-true, eqb-false, ne_eqb, ltb-true, lt-ltb, leb-true, le-leb, lt-leb}
 use Rattle.book.specs.declared.Entry.{Entry}
 use Rattle.book.specs.declared.Side.{Side}
+use Rattle.book.specs.declared.Book.{Book}
+use Rattle.book.specs.declared.Update.{Update}
 use Rattle.std.specs.Prelude.{Err}
 use Rattle.book.specs.declared.reasons.Breach.{Breach}
 use Rattle.book.specs.declared.reasons.Breach.TheVariants.{Place, Room}
-use Rattle.book.specs.Results.{reason_number, done_from}
+use Rattle.book.specs.Results.{reason_number, done_from, turn_from, turn_at}
 use Rattle.book.specs.Rules.{most_places, bad_place, is_place}
-use Rattle.book.specs.Sides.{Done, done, refused, held_at, new_at, change_at, delete_at, delete_thru, delete_from, side_step, breach_of, first_changed}
+use Rattle.book.specs.Sides.{Done, Turn, done, refused, held_at, new_at, change_at, delete_at, delete_thru, delete_from, side_step, book_step, breach_of, first_changed}
 use Rattle.book.proofs.Tests.{by_test, place_in, place_is}
-use Rattle.book.proofs.Untouched.{side_answered}
+use Rattle.book.proofs.Untouched.{side_answered, book_answered}
 
 -- a side of n places that does not refuse an action at p
 pub record Fair (n action p : ℕ) : Type 0 where
@@ -114,6 +116,21 @@ refused_by s action p e why h =
     is_reason : (why : Breach) → reason_number why ≡ 0 → ⊥
     is_reason Place z = omega arith
     is_reason Room z = omega arith
+
+-- the same of a book
+turn_by : {b c : Book} {r q : ℕ} → b ≡ c → r ≡ q → ◌≡◌ {A = Turn} (record { book = b; reason = r }) (record { book = c; reason = q })
+turn_by h g = cc
+
+-- a breach of a book where it stands is a breach of the book that was there, which it leaves
+pub book_refused : (b c : Book) (u : Update) (why : Breach) → turn_at c (Err why) ≡ book_step b u → turn_from b (Err why) ≡ book_step b u
+book_refused b c u why h = refused_as (reason_number why) (has_reason why) (ap (λ (t : Turn). t.reason) h)
+  where
+    has_reason : (why : Breach) → 0 < reason_number why
+    has_reason Place = omega arith
+    has_reason Room = omega arith
+
+    refused_as : (r : ℕ) → 0 < r → r ≡ (book_step b u).reason → record { book = b; reason = r } ≡ book_step b u
+    refused_as r p g = turn_by (sym ((book_answered b u).as_was (omega (arith, p, g)))) g
 
 -- what an action that is no breach leaves
 module _ (s : Side) (action p : ℕ) (e : Entry) (clear : breach_of s.held action p ≡ 0) where

@@ -26,3 +26,10 @@ done_from s (Err why) = record { side = s; reason = reason_number why }
 abbrev pub turn_from : Book → Result Book Breach → Turn
 turn_from b (Ok c) = record { book = c; reason = 0 }
 turn_from b (Err why) = record { book = b; reason = reason_number why }
+
+-- The same of a side, and of a book, that is worked where it stands.
+abbrev pub done_at : Side → Result Unit Breach → Done
+done_at s r = record { side = s; reason = breach_number r }
+
+abbrev pub turn_at : Book → Result Unit Breach → Turn
+turn_at b r = record { book = b; reason = breach_number r }

@@ -6,7 +6,7 @@ ghost use Rattle.std.specs.Prelude.{◌≡◌, ◌∷◌, ◌++◌, ◌+◌, ◌
 ghost use Rattle.book.specs.Ids.{id_fine};
 ghost use Rattle.book.specs.Rules.{most_places};
 ghost use Rattle.book.specs.Sides.{no_entry, no_side, no_book, pad, breach_of, first_changed, side_step, book_step};
-ghost use Rattle.book.specs.Results.{breach_number, done_from, turn_from};
+ghost use Rattle.book.specs.Results.{breach_number, done_at, turn_at, turn_from};
 
 mod reasons;
 
@@ -232,30 +232,37 @@ pub fn worked(s: Side, action: u64, p: usize, e: Entry) -> Side
     }
 }
 
-// The operation that the action names, or its breach.
+// The operation that the action names, on a side where it stands, or its breach, which leaves the side.
 #[tactic(auto, using(crate::proofs::Breaches::refused_by, crate::proofs::Breaches::step_reason))]
-fn on_side(s: Side, action: u64, p: usize, e: Entry) -> Result<Side, Breach>
-    ensures { done_from s result ≡ side_step s action p e }
+fn on_side(s: &mut Side, action: u64, p: usize, e: Entry) -> Result<(), Breach>
+    ensures { done_at s.new result ≡ side_step s.old action p e }
 {
     breach(s.held, action, p)?;
-    Ok(worked(s, action, p, e))
+    *s = worked(*s, action, p, e);
+    Ok(())
 }
 
-// One entry of a message on the book of its instrument: the side that it names is worked and the other stays; J
-// empties both.
+// One entry of a message on the book of its instrument where it stands: the side that it names is worked and the other stays; J
+// empties both. A breach leaves the book.
 #[tactic(auto, unfolding(crate::specs::Sides::book_step))]
+pub fn work(b: &mut Book, u: Update) -> Result<(), Breach>
+    ensures { turn_at b.new result ≡ book_step b.old u }
+{
+    match u.what {
+        BID => on_side(&mut b.bids, u.action, u.place, u.entry),
+        OFFER => on_side(&mut b.offers, u.action, u.place, u.entry),
+        _ => {
+            *b = no_book();
+            Ok(())
+        }
+    }
+}
+
+// The same on a book by value.
 pub fn apply(b: Book, u: Update) -> Result<Book, Breach>
     ensures { turn_from b result ≡ book_step b u }
 {
-    match u.what {
-        BID => {
-            let bids = on_side(b.bids, u.action, u.place, u.entry)?;
-            Ok(Book { bids, ..b })
-        }
-        OFFER => {
-            let offers = on_side(b.offers, u.action, u.place, u.entry)?;
-            Ok(Book { offers, ..b })
-        }
-        _ => Ok(no_book()),
-    }
+    let mut worked = b;
+    work(&mut worked, u)?;
+    Ok(worked)
 }

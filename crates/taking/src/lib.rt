@@ -22,7 +22,7 @@ use message::Answer;
 use store::Fed;
 
 // The first q queued entries on a book, up to the first breach.
-#[tactic(auto, using(crate::proofs::Turns::passes, crate::proofs::Turns::goes_on_lem, crate::proofs::Turns::stops, cells::proofs::Tables::tab_end), unfolding(crate::specs::Replays::replay_b, store::specs::Meaning::queued_at))]
+#[tactic(auto, using(cells::proofs::Tables::tab_end), unfolding(crate::specs::Replays::replay_b))]
 fn replay(store: &[u64], q: usize, i: usize, last: u64, book: Book) -> Result<Book, Breach>
     requires { (store_size ≤ length store.now) × (q ≤ 256) }
     ensures { let t = replay_b i last (tab (queued_at store.now) q) book in turn_from t.book result ≡ t }
@@ -38,7 +38,7 @@ fn replay(store: &[u64], q: usize, i: usize, last: u64, book: Book) -> Result<Bo
             store[says + cells::UPDATE_WHAT],
             store[at],
         ) {
-            b = book::apply(b, cells::load_update(store, says))?;
+            book::work(&mut b, cells::load_update(store, says))?;
         }
     }
     Ok(b)
