@@ -123,7 +123,7 @@
  *   are sound; selkavorn_open writes them once. A feed then takes time by the length of its
  *   message, a J of all by how many are followed, a W that is taken by the length of the queue too,
  *   and one that ends a loop as much again for each instrument that takes an empty snapshot.
- *   selkavorn_salvage takes time by the bytes that it walks. At most 27,208 bytes of stack were
+ *   selkavorn_salvage takes time by the bytes that it walks. At most 20,632 bytes of stack were
  *   used in any call that was measured, a feed of 64 entries; the budget is 24,576. docs/BENCH.md
  *   has times.
  *
