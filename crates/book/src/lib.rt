@@ -262,7 +262,7 @@ pub fn work(b: &mut Book, u: Update) -> Result<(), Breach>
 pub fn apply(b: Book, u: Update) -> Result<Book, Breach>
     ensures { turn_from b result ≡ book_step b u }
 {
-    let mut worked = b;
-    work(&mut worked, u)?;
-    Ok(worked)
+    let mut after = b;
+    work(&mut after, u)?;
+    Ok(after)
 }

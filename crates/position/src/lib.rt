@@ -23,7 +23,7 @@ pub const ENTRY_END: usize = tags::COUNT;
 
 // How a group is read and what stands before it: the first tag of an entry and the first slot that may stand in one,
 // and the reading's numbers.
-// Kept: first and low and no kind of message, since `entry` answers for every Top and `group::listed` for every one that is `Fair`, of any first tag.
+// Kept: first and low stand here and no kind of message, since `entry` answers for every Top and `group::listed` for every one that is `Fair`, of any first tag.
 #[derive(Clone, Copy)]
 pub struct Top {
     pub first: u64,

@@ -99,6 +99,7 @@ run_sold z (e ∷ es) h =
     let l : 0 - e.size ≡ 0 = omega arith in
     rw (no_units z e, h, l) (run_sold z es h)
 
+-- with no unit left, whatever places follow
 pub run_out : (z : ℤ) (n : ℕ) (es : List Entry) → fits z ≡ true → n ≡ 0 → run z n es ≡ Some (record { sum = z; left = n })
 run_out z n es h e = rw e (run_sold z es h)
 

@@ -95,8 +95,8 @@ fn put_byte(line: &mut [u8], at: usize, b: u8) -> usize {
     }
 }
 
-// A space and the bytes as text: up to 4,307 bytes, each of at most four in the line. The line goes out whole, in one write: by bytes it
-// took longer, and a buffer that fills went out elsewhere in the line.
+// A space and the bytes as text: up to 4,307 bytes, each of at most four in the line. The line goes out in one write: byte by byte it
+// takes longer, and the buffer behind it is flushed in the middle of a line.
 fn bytes(out: &mut impl Write, text: &[u8]) -> io::Result<()> {
     let mut line = [0u8; 17228];
     let mut n = 0;
