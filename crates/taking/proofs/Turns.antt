@@ -33,13 +33,22 @@ module _ (i S : ℕ) (f : ℕ → Queued) (q k : ℕ) (b : Book) (h : k < q) whe
 
   -- one that is due, with what it leaves of the book
   module _ (e : due i S (f k).update.who (f k).update.what (f k).number ≡ true) where
-    pub goes_on_lem : (c : Book) (d : Unit {0}) → turn_at c (Ok d) ≡ book_step b (f k).update
+    -- of a book where it stands
+    pub goes_on_at : (c : Book) (d : Unit {0}) → turn_at c (Ok d) ≡ book_step b (f k).update
         → replay_b i S (drop (k + 1) (tab f q)) c ≡ replay_b i S (drop k (tab f q)) b
-    goes_on_lem c d w = sym (applies e ∙ ap (λ (x : Turn). next x (replay_b i S (drop (k + 1) (tab f q)))) (sym w))
+    goes_on_at c d w = sym (applies e ∙ ap (λ (x : Turn). next x (replay_b i S (drop (k + 1) (tab f q)))) (sym w))
 
-    pub stops : (c : Book) (why : Breach) (t : Turn) → replay_b i S (drop k (tab f q)) b ≡ t → turn_at c (Err why) ≡ book_step b (f k).update
+    broke : (c : Book) (why : Breach) → turn_at c (Err why) ≡ book_step b (f k).update → turn_at c (Err why) ≡ replay_b i S (drop k (tab f q)) b
+    broke c why w = sym (applies e ∙ ap (λ (x : Turn). next x (replay_b i S (drop (k + 1) (tab f q)))) (sym w) ∙ rw (has_reason why))
+
+    pub stops_at : (c : Book) (why : Breach) (t : Turn) → replay_b i S (drop k (tab f q)) b ≡ t → turn_at c (Err why) ≡ book_step b (f k).update
         → turn_from t.book (Err why) ≡ t
-    stops c why t h w =
-        let s : turn_at c (Err why) ≡ replay_b i S (drop k (tab f q)) b
-        = sym (applies e ∙ ap (λ (x : Turn). next x (replay_b i S (drop (k + 1) (tab f q)))) (sym w) ∙ rw (has_reason why)) in
-        ap (λ (r : ℕ). record { book = t.book; reason = r }) (ap (λ (x : Turn). x.reason) (s ∙ h))
+    stops_at c why t h w = ap (λ (r : ℕ). record { book = t.book; reason = r }) (ap (λ (x : Turn). x.reason) (broke c why w ∙ h))
+
+    -- of a book by value, which a breach leaves as it was
+    pub goes_on_lem : (c : Book) → turn_from b (Ok c) ≡ book_step b (f k).update
+        → replay_b i S (drop (k + 1) (tab f q)) c ≡ replay_b i S (drop k (tab f q)) b
+    goes_on_lem c w = goes_on_at c tt w
+
+    pub stops : (why : Breach) → turn_from b (Err why) ≡ book_step b (f k).update → turn_from b (Err why) ≡ replay_b i S (drop k (tab f q)) b
+    stops why w = broke b why w

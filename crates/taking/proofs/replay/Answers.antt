@@ -6,7 +6,7 @@ use Rattle.std.proofs.lemmas.Result.{err_from_is_err_and}
 use Rattle.book.specs.Sides.{book_step}
 use Rattle.store.specs.Meaning.{queued_at}
 use Rattle.terms.specs.Terms.{due}
-use Rattle.taking.proofs.Turns.{passes, goes_on_lem, stops}
+use Rattle.taking.proofs.Turns.{passes, goes_on_at, stops_at}
 use Rattle.taking.proofs.replay.Goals as goal
 use Rattle.taking.proofs.replay.Goals.{then-is_due+in_ok-work, else-is_due}
 
@@ -18,7 +18,7 @@ returns-in_err-work c =
     let f = queued_at a.store.now in
     let e : due a.i a.last (f l.k).update.who (f l.k).update.what (f l.k).number ≡ true = sym c.is_due.ensures ∙ c.if-is_due.true in
     let p = err_from_is_err_and c.from_residual.result c.from_residual.ensures.1 in
-    rw (p.1, p.2) (stops a.i a.last f a.q l.k l.b (omega arith) e _ _ _ l.invariant (c.in_err-work.ensures ∙ ap (book_step l.b) c.load_update.ensures))
+    rw (p.1, p.2) (stops_at a.i a.last f a.q l.k l.b (omega arith) e _ _ _ l.invariant (c.in_err-work.ensures ∙ ap (book_step l.b) c.load_update.ensures))
 
 pub loop-k-preserved : goal.loop-k-preserved
 unfolding queued_at
@@ -29,6 +29,6 @@ loop-k-preserved c =
     elim c.if-is_due.branch [
       | then-is_due+in_ok-work w ↦
           let e : due a.i a.last (f l.k).update.who (f l.k).update.what (f l.k).number ≡ true = sym c.is_due.ensures ∙ w.if-is_due.true in
-          rw w.b-is (goes_on_lem a.i a.last f a.q l.k l.b (omega arith) e _ _ (w.in_ok-work.ensures ∙ ap (book_step l.b) w.load_update.ensures) ∙ l.invariant)
+          rw w.b-is (goes_on_at a.i a.last f a.q l.k l.b (omega arith) e _ _ (w.in_ok-work.ensures ∙ ap (book_step l.b) w.load_update.ensures) ∙ l.invariant)
       | else-is_due w ↦ rw w.b-is (passes a.i a.last f a.q l.k l.b (omega arith) (sym c.is_due.ensures ∙ w.if-is_due.false) ∙ l.invariant)
     ]
