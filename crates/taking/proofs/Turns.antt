@@ -33,13 +33,16 @@ module _ (i S : ℕ) (f : ℕ → Queued) (q k : ℕ) (b : Book) (h : k < q) whe
 
   -- one that is due, with what it leaves of the book
   module _ (e : due i S (f k).update.who (f k).update.what (f k).number ≡ true) where
+    goes : (t : Turn) → t ≡ book_step b (f k).update → next t (replay_b i S (drop (k + 1) (tab f q))) ≡ replay_b i S (drop k (tab f q)) b
+    goes t w = sym (applies e ∙ ap (λ (x : Turn). next x (replay_b i S (drop (k + 1) (tab f q)))) (sym w))
+
     -- of a book where it stands
     pub goes_on_at : (c : Book) (d : Unit {0}) → turn_at c (Ok d) ≡ book_step b (f k).update
         → replay_b i S (drop (k + 1) (tab f q)) c ≡ replay_b i S (drop k (tab f q)) b
-    goes_on_at c d w = sym (applies e ∙ ap (λ (x : Turn). next x (replay_b i S (drop (k + 1) (tab f q)))) (sym w))
+    goes_on_at c d w = goes (turn_at c (Ok d)) w
 
     broke : (c : Book) (why : Breach) → turn_at c (Err why) ≡ book_step b (f k).update → turn_at c (Err why) ≡ replay_b i S (drop k (tab f q)) b
-    broke c why w = sym (applies e ∙ ap (λ (x : Turn). next x (replay_b i S (drop (k + 1) (tab f q)))) (sym w) ∙ rw (has_reason why))
+    broke c why w = rw (has_reason why) at (goes (turn_at c (Err why)) w)
 
     pub stops_at : (c : Book) (why : Breach) (t : Turn) → replay_b i S (drop k (tab f q)) b ≡ t → turn_at c (Err why) ≡ book_step b (f k).update
         → turn_from t.book (Err why) ≡ t
